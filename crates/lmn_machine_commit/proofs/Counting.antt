@@ -1,6 +1,6 @@
 -- How many rules code adds to the membrane in a register, counted instruction by instruction.
-use Rattle.std.proofs.Common.{ℕ, zero, suc, ◌≡◌, ◌≢◌, ◌<◌, ◌≤◌, ◌+◌, ◌⊎◌, inl, inr, cond, List, [], ◌∷◌, ◌++◌, Option, Some, None, IsSome, Result, Ok, Err, refl, arith, ap, sym, subst, length, take, ◌∙◌}
-use Rattle.std.specs.Prelude.{slice_get, OnOk}
+use Rattle.std.proofs.Common.{ℕ, zero, suc, ◌≡◌, ◌≢◌, ◌<◌, ◌≤◌, ◌+◌, ◌⊎◌, inl, inr, cond, List, [], ◌∷◌, ◌++◌, Option, Some, None, IsSome, refl, arith, ap, sym, subst, length, take, ◌∙◌}
+use Rattle.std.specs.Prelude.{slice_get}
 use Rattle.std.proofs.lemmas.Option.{same_Some}
 use Rattle.lmn_base.proofs.Lists.{get_below, get_there}
 use Rattle.lmn_base.proofs.Numbers.{not_equal}
@@ -11,16 +11,24 @@ use Rattle.lmn_instr_pool.specs.Extents.{Makes, NoneBefore}
 use Rattle.lmn_solid_bodies.specs.Running.{Registers}
 use Rattle.lmn_machine_registers.specs.declared.registers.SetRegisters.{SetRegisters}
 use Rattle.lmn_machine_commit.specs.Registers.{AgreesWithCopies, AreHeld}
-use Rattle.lmn_machine_commit.specs.Preparing.{AddsSo, AllUse, IsCounted, IsCountedOn, IsMade, RoomIsMade, Uses, UsesInOrder, membranes_made, needed, needed_by}
+use Rattle.lmn_machine_commit.specs.Preparing.{AddsSo, AllUse, IsCounted, IsMade, KeepsCount, RoomIsMade, Uses, UsesInOrder, membranes_made, needed, needed_by}
 use Rattle.lmn_machine_commit.proofs.Codes.{needed_more}
-use Rattle.lmn_machine_commit.proofs.Making.{agrees_before}
+use Rattle.lmn_machine_commit.proofs.Making.{agrees_before, copy_rules_made, load_rule_made}
 
 -- ---- instructions
 
-pub adds_none : (i : Instr) → ((m k : ℕ) → i ≡ LoadRule m k → ⊥) → ((m n : ℕ) → i ≡ CopyRules m n → ⊥) → AddsSo i None
-adds_none (LoadRule m k) o p = absurd (o m k refl)
-adds_none (CopyRules m n) o p = absurd (p m n refl)
-adds_none _ o p = refl
+-- an instruction that makes no membrane and adds no rules keeps what is counted
+pub keeps_count : (i : Instr) → ((m n : ℕ) → i ≡ NewMem m n → ⊥) → ((m k : ℕ) → i ≡ LoadRule m k → ⊥) → ((m n : ℕ) → i ≡ CopyRules m n → ⊥) → KeepsCount i
+keeps_count (NewMem m n) o p q = absurd (o m n refl)
+keeps_count (LoadRule m k) o p q = absurd (p m k refl)
+keeps_count (CopyRules m n) o p q = absurd (q m n refl)
+keeps_count _ o p q = tt
+
+-- it adds none
+keeps_none : (i : Instr) → KeepsCount i → AddsSo i None
+keeps_none (LoadRule m k) w = absurd w
+keeps_none (CopyRules m n) w = absurd w
+keeps_none _ w = refl
 
 -- an instruction that adds rules uses its registers as it reads them,
 pub adds_uses : (a m g v c : ℕ) (i : Instr) (to : ℕ) → AddsSo i (Some to) → UsesInOrder a m g v c i → Uses a m g c i
@@ -55,9 +63,18 @@ none_needed r rules (i ∷ is) (suc n) x none =
     let rest = none_needed r rules is n x (λ j y l e. none (suc j) y (omega (arith, l)) e) in
     omega (arith, here, rest)
 
-pub goes_on : (i : Instr) (register count : ℕ) → ((m n : ℕ) → i ≡ NewMem m n → ⊥) → IsCountedOn i register count register count
-goes_on (NewMem m n) register count o = absurd (o m n refl)
-goes_on _ register count o = (refl, refl)
+-- What is counted behind an instruction: a membrane that it made has no rules, and else as before.
+abbrev IsCountedOn : Instr → (register count next next_count : ℕ) → Type 0
+IsCountedOn (NewMem m n) register count next next_count = (next ≡ m) × (next_count ≡ 0)
+IsCountedOn _ register count next next_count = (next ≡ register) × (next_count ≡ count)
+
+keeps_on : (i : Instr) (register count : ℕ) → KeepsCount i → IsCountedOn i register count register count
+keeps_on (NewMem m n) register count w = absurd w
+keeps_on _ register count w = (refl, refl)
+
+adds_on : (i : Instr) (to count : ℕ) → AddsSo i (Some to) → IsCountedOn i to count to count
+adds_on (NewMem m n) to count w = absurd (cc)
+adds_on _ to count w = (refl, refl)
 
 on_made : (i : Instr) (register count next next_count : ℕ) → IsCountedOn i register count next next_count →
     ((m : ℕ) × (n : ℕ) × (i ≡ NewMem m n) × (next ≡ m) × (next_count ≡ 0)) ⊎ ((membranes_made i ≡ 0) × (next ≡ register) × (next_count ≡ count))
@@ -83,7 +100,7 @@ none_to r rules a m g c x away (i ∷ is) u =
 -- ---- counts
 
 module _ {A M : Type 0} (atom : A → ℕ) (membrane : M → ℕ) where
-  pub counted_none : (s : Heap) (g : SetRegisters A M) (before upto : List Instr) (i : Instr) (register count : ℕ) → upto ≡ before ++ i ∷ [] → AddsSo i None →
+  counted_none : (s : Heap) (g : SetRegisters A M) (before upto : List Instr) (i : Instr) (register count : ℕ) → upto ≡ before ++ i ∷ [] → AddsSo i None →
       IsCounted {A = A} {M = M} atom membrane s g before register count → IsCounted {A = A} {M = M} atom membrane s g upto register count
   counted_none s g before upto i register count is adds c r m u e =
       let more = ap (λ js. needed r (rules_in s) js (membrane m)) is ∙ needed_more r (rules_in s) before i (membrane m) in
@@ -112,7 +129,7 @@ module _ {A M : Type 0} (atom : A → ℕ) (membrane : M → ℕ) where
       let z : IsSome {T = HeapMem} None = subst (λ (o : Option HeapMem). IsSome o) (ap s.mems same ∙ free) there in
       cc
 
-  pub counted_on : (s t : Heap) (g k : SetRegisters A M) (before : List Instr) (i : Instr) (v register count next next_count : ℕ) → IsMade atom membrane s t g k before i → AreHeld atom membrane s g →
+  counted_on : (s t : Heap) (g k : SetRegisters A M) (before : List Instr) (i : Instr) (v register count next next_count : ℕ) → IsMade atom membrane s t g k before i → AreHeld atom membrane s g →
       AllUse (length g.atoms) (length g.membranes) (length g.parts) (length g.copies) before → UsesInOrder (length g.atoms) (length g.membranes) (length g.parts) v (length g.copies) i →
       (upto : List Instr) → upto ≡ before ++ i ∷ [] → IsCounted {A = A} {M = M} atom membrane s g upto register count → IsCountedOn i register count next next_count →
       IsCounted {A = A} {M = M} atom membrane t k upto next next_count
@@ -146,10 +163,39 @@ module _ {A M : Type 0} (atom : A → ℕ) (membrane : M → ℕ) where
             )
       ]
 
+  -- what is counted behind an instruction that keeps the count,
+  pub counted_kept : (s t : Heap) (g k : SetRegisters A M) (before : List Instr) (i : Instr) (v register count : ℕ) → KeepsCount i → IsMade atom membrane s t g k before i → AreHeld atom membrane s g →
+      AllUse (length g.atoms) (length g.membranes) (length g.parts) (length g.copies) before → UsesInOrder (length g.atoms) (length g.membranes) (length g.parts) v (length g.copies) i →
+      (upto : List Instr) → upto ≡ before ++ i ∷ [] → IsCounted {A = A} {M = M} atom membrane s g before register count → IsCounted {A = A} {M = M} atom membrane t k upto register count
+  counted_kept s t g k before i v register count keeps made held uses reads upto is c =
+      counted_on s t g k before i v register count register count made held uses reads upto is (counted_none s g before upto i register count is (keeps_none i keeps) c) (keeps_on i register count keeps)
+
+  -- behind one that makes a membrane,
+  pub counted_new : (s t : Heap) (g k : SetRegisters A M) (before : List Instr) (i : Instr) (m n v register count : ℕ) → i ≡ NewMem m n → IsMade atom membrane s t g k before i → AreHeld atom membrane s g →
+      AllUse (length g.atoms) (length g.membranes) (length g.parts) (length g.copies) before → UsesInOrder (length g.atoms) (length g.membranes) (length g.parts) v (length g.copies) i →
+      (upto : List Instr) → upto ≡ before ++ i ∷ [] → IsCounted {A = A} {M = M} atom membrane s g before register count → IsCounted {A = A} {M = M} atom membrane t k upto m 0
+  counted_new s t g k before i m n v register count e made held uses reads upto is c =
+      counted_on s t g k before i v register count m 0 made held uses reads upto is (counted_none s g before upto i register count is (subst (λ j. AddsSo j None) (sym e) refl) c) (subst (λ j. IsCountedOn j register count m 0) (sym e) (refl, refl))
+
+  -- and behind one that adds rules
+  pub counted_added : (s t : Heap) (g : SetRegisters A M) (before : List Instr) (i : Instr) (v to count : ℕ) → AddsSo i (Some to) → IsMade atom membrane s t g g before i → AreHeld atom membrane s g →
+      AllUse (length g.atoms) (length g.membranes) (length g.parts) (length g.copies) before → UsesInOrder (length g.atoms) (length g.membranes) (length g.parts) v (length g.copies) i →
+      (upto : List Instr) → upto ≡ before ++ i ∷ [] → IsCounted {A = A} {M = M} atom membrane s g upto to count → IsCounted {A = A} {M = M} atom membrane t g upto to count
+  counted_added s t g before i v to count adds made held uses reads upto is c =
+      counted_on s t g g before i v to count to count made held uses reads upto is c (adds_on i to count adds)
+
   -- room for as many rules as were counted is room for what the code adds
-  pub room_to : (s t : Heap) (g : SetRegisters A M) (code : List Instr) (register count to : ℕ) (m : M) → IsCounted {A = A} {M = M} atom membrane s g code register count → register ≡ to → slice_get g.membranes to ≡ Some m →
-      {T E : Type 0} (o : Result T E) → OnOk o (t ≡ reserved s (membrane m) (spare_of t (membrane m))) → OnOk o (count ≤ spare_of t (membrane m)) →
-      {X : Type 0} → (RoomIsMade {A = A} {M = M} atom membrane s t g code (membrane m) → X) → OnOk o X
-  room_to s t g code register count to m c e at (Ok x) is least {X} then =
-      then (is, λ r u. (let n = c r m u (subst (λ z. slice_get g.membranes z ≡ Some m) (sym e) at) in omega (arith, n, least)))
-  room_to s t g code register count to m c e at (Err x) is least {X} then = tt
+  room_for : (s t : Heap) (g : SetRegisters A M) (code : List Instr) (count to : ℕ) (m : M) → IsCounted {A = A} {M = M} atom membrane s g code to count → slice_get g.membranes to ≡ Some m →
+      t ≡ reserved s (membrane m) (spare_of t (membrane m)) → count ≤ spare_of t (membrane m) → RoomIsMade {A = A} {M = M} atom membrane s t g code (membrane m)
+  room_for s t g code count to m c at is least = (is, λ r u. (let n = c r m u at in omega (arith, n, least)))
+
+  -- and then what an instruction makes is made that adds rules
+  pub room_made_for : (s t : Heap) (g : SetRegisters A M) (before upto : List Instr) (i : Instr) (count to : ℕ) (m : M) → AddsSo i (Some to) → AreHeld atom membrane s g → upto ≡ before ++ i ∷ [] →
+      IsCounted {A = A} {M = M} atom membrane s g upto to count → slice_get g.membranes to ≡ Some m → t ≡ reserved s (membrane m) (spare_of t (membrane m)) → count ≤ spare_of t (membrane m) → IsMade atom membrane s t g g before i
+  room_made_for s t g before upto (LoadRule x k) count to m adds held is c at reserved_so least =
+      let same : to ≡ x = same_Some to x adds in
+      load_rule_made atom membrane s t g before upto (LoadRule x k) m x k held (room_for s t g upto count to m c at reserved_so least) is refl (subst (λ n. slice_get g.membranes n ≡ Some m) same at)
+  room_made_for s t g before upto (CopyRules x y) count to m adds held is c at reserved_so least =
+      let same : to ≡ y = same_Some to y adds in
+      copy_rules_made atom membrane s t g before upto (CopyRules x y) m x y held (room_for s t g upto count to m c at reserved_so least) is refl (subst (λ n. slice_get g.membranes n ≡ Some m) same at)
+  room_made_for s t g before upto _ count to m adds held is c at reserved_so least = absurd (cc)

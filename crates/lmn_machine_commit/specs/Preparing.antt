@@ -107,10 +107,12 @@ abbrev pub IsCounted : {A M : Type 0} → (A → ℕ) → (M → ℕ) → Heap �
 IsCounted {A} {M} atom membrane s g code register count =
     (r : Registers) (m : M) → AgreesWithCopies atom membrane g r → slice_get g.membranes register ≡ Some m → count ≡ needed r (rules_in s) code (membrane m)
 
--- What is counted behind an instruction: a membrane that it made has no rules, and else as before.
-abbrev pub IsCountedOn : Instr → (register count next next_count : ℕ) → Type 0
-IsCountedOn (NewMem m n) register count next next_count = (next ≡ m) × (next_count ≡ 0)
-IsCountedOn _ register count next next_count = (next ≡ register) × (next_count ≡ count)
+-- An instruction makes no membrane and adds no rules: what is counted before it is counted behind it too.
+abbrev pub KeepsCount : Instr → Type 0
+KeepsCount (NewMem m n) = ⊥
+KeepsCount (LoadRule m k) = ⊥
+KeepsCount (CopyRules m n) = ⊥
+KeepsCount _ = Unit {0}
 
 -- ---- what a match must hold, and what is prepared
 

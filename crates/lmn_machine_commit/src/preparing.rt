@@ -1,12 +1,13 @@
 //! Makes all that the code of a body makes.
-ghost use Rattle.std.specs.Prelude.{◌≡◌, ◌<◌, ◌≤◌, ◌+◌, ℕ, length, take, slice_get, Some, IfOk, OnOk, OnErr};
+ghost use Rattle.std.specs.Prelude.{◌≡◌, ◌<◌, ◌≤◌, ◌+◌, ℕ, List, length, take, slice_get, Some, IfOk, OnOk, OnErr};
 ghost use Rattle.lmn_store_heap.specs.Heap.{IsMem, reserved, rules_in, spare_of, Unmarked};
 ghost use Rattle.lmn_store_heap.specs.Sound.{Valid};
 ghost use Rattle.lmn_solid_bodies.specs.Running.{Registers};
 ghost use Rattle.lmn_solid_bodies.specs.Stopping.{SameButSpares};
 ghost use Rattle.lmn_machine_commit.specs.Registers.{AgreesWithCopies, AreHeld};
-ghost use Rattle.lmn_machine_commit.specs.Preparing.{AddsSo, AllUse, AreAtHome, AtomIsMade, CanBeCopied, CanCopy, CanCopyRest, CanPrepare, CopyIsMade, HasClosedRest, RestIsMade, MembraneIsMade, OnlyMakes, IsCounted, IsCountedOn, IsMade, Prepared, UsesInOrder, Uses, needed, needed_by};
+ghost use Rattle.lmn_machine_commit.specs.Preparing.{AddsSo, AllUse, AreAtHome, AtomIsMade, CanBeCopied, CanCopy, CanCopyRest, CanPrepare, CopyIsMade, HasClosedRest, RestIsMade, MembraneIsMade, OnlyMakes, IsCounted, IsMade, KeepsCount, Prepared, UsesInOrder, Uses, needed, needed_by};
 ghost use Rattle.lmn_machine_registers.specs.declared.stack.TheConstants.{ROOM};
+ghost use Rattle.lmn_instr_code.specs.declared.instr.Instr.{Instr};
 
 use crate::marking::mark_taken;
 use lmn_base::{Functor, Label, NoMemory};
@@ -130,17 +131,6 @@ struct Counted {
     count: u64,
 }
 
-/// The register of the membrane to which an instruction adds rules, if it adds some.
-fn added_to(instr: &Instr) -> Option<usize>
-    ensures { AddsSo instr.now result }
-{
-    match instr {
-        Instr::LoadRule { membrane, .. } => Some(*membrane as usize),
-        Instr::CopyRules { to, .. } => Some(*to as usize),
-        _ => None,
-    }
-}
-
 /// How many rules the code before a place adds to a membrane. What was counted for its register isn't counted again.
 fn count_before<S: LinkStore>(
     store: &S,
@@ -164,55 +154,6 @@ fn count_before<S: LinkStore>(
     match rules_needed(store, code, at, set, membrane) {
         Some(count) => Ok(count),
         None => Err(NoMemory),
-    }
-}
-
-/// What is counted with the instruction at a place, too. Rules of one membrane mostly stand together in code, so that most of it is read
-/// once.
-fn count_with<S: LinkStore>(
-    store: &S,
-    code: &Body<'_>,
-    at: usize,
-    instr: &Instr,
-    set: &SetRegisters<S::Atom, S::Mem>,
-    counted: Counted,
-) -> Result<Counted, NoMemory>
-    requires at { slice_get code.now at ≡ Some instr.now }
-    requires held { AreHeld S.atom_id S.mem_id (S.heap store.now) set.now }
-    requires uses { AllUse (length set.now.atoms) (length set.now.membranes) (length set.now.parts) (length set.now.copies) (take at code.now) }
-    requires reads { UsesInOrder (length set.now.atoms) (length set.now.membranes) (length set.now.parts) (length set.now.integers) (length set.now.copies) instr.now }
-    requires counted { IsCounted S.atom_id S.mem_id (S.heap store.now) set.now (take at code.now) counted.register counted.count }
-    ensures counted { IfOk result (λ next. IsCounted S.atom_id S.mem_id (S.heap store.now) set.now (take (at + 1) code.now) next.register next.count) }
-    ensures to { IfOk result (λ next. (to : ℕ) → AddsSo instr.now (Some to) → next.register ≡ to) }
-{
-    let _code = code.len();
-    match added_to(instr) {
-        None => Ok(counted),
-        Some(to) => {
-            let membrane = set.membranes.at(to);
-            let before = count_before(store, code, at, set, to, membrane, counted)?;
-            let added = rules_added(store, instr, set, membrane);
-            match before.checked_add(added) {
-                Some(count) => Ok(Counted {
-                    register: to,
-                    count,
-                }),
-                None => Err(NoMemory),
-            }
-        }
-    }
-}
-
-/// What is counted behind an instruction, when what it makes is made. A membrane that it made has no rules yet.
-fn count_on(instr: &Instr, counted: Counted) -> Counted
-    ensures { IsCountedOn instr.now counted.register counted.count result.register result.count }
-{
-    match instr {
-        Instr::NewMem { membrane, .. } => Counted {
-            register: *membrane as usize,
-            count: 0,
-        },
-        _ => counted,
     }
 }
 
@@ -255,27 +196,61 @@ fn copy_rest<S: LinkStore>(
     copied
 }
 
-/// Makes what the instruction at a place of the code makes. `counted` are the rules that the code up to it adds to its membrane.
-fn make<S: LinkStore>(
+/// Makes room for the rules that the instruction at a place of the code and those before it add to the membrane in a register, and answers
+/// how many these are. Rules of one membrane mostly stand together in code, so that most of it is read once.
+#[inline(always)]
+fn make_room<S: LinkStore>(
     alloc: Global,
     store: &mut S,
     code: &Body<'_>,
     at: usize,
     instr: &Instr,
+    to: usize,
     counted: Counted,
+    set: &SetRegisters<S::Atom, S::Mem>,
+) -> Result<Counted, NoMemory>
+    requires at { slice_get code.now at ≡ Some instr.now }
+    requires to { AddsSo instr.now (Some to) }
+    requires held { AreHeld S.atom_id S.mem_id (S.heap store.old) set.now }
+    requires uses { AllUse (length set.now.atoms) (length set.now.membranes) (length set.now.parts) (length set.now.copies) (take at code.now) }
+    requires reads { UsesInOrder (length set.now.atoms) (length set.now.membranes) (length set.now.parts) (length set.now.integers) (length set.now.copies) instr.now }
+    requires counted { IsCounted S.atom_id S.mem_id (S.heap store.old) set.now (take at code.now) counted.register counted.count }
+    ensures ok { OnOk result (IsMade S.atom_id S.mem_id (S.heap store.old) (S.heap store.new) set.now set.now (take at code.now) instr.now) }
+    ensures counted { IfOk result (λ next. IsCounted S.atom_id S.mem_id (S.heap store.new) set.now (take (at + 1) code.now) next.register next.count) }
+    ensures makes { OnlyMakes (S.heap store.old) (S.heap store.new) }
+{
+    let _code = code.len();
+    let membrane = set.membranes.at(to);
+    let before = count_before(store, code, at, set, to, membrane, counted)?;
+    let added = rules_added(store, instr, set, membrane);
+    match before.checked_add(added) {
+        Some(count) => {
+            reserve(alloc, store, membrane, count)?;
+            Ok(Counted {
+                register: to,
+                count,
+            })
+        }
+        None => Err(NoMemory),
+    }
+}
+
+/// Makes what an instruction makes that makes no membrane and adds no rules.
+#[inline(always)]
+fn make<S: LinkStore>(
+    alloc: Global,
+    store: &mut S,
+    instr: &Instr,
     set: &mut SetRegisters<S::Atom, S::Mem>,
 ) -> Result<(), NoMemory>
-    requires at { slice_get code.now at ≡ Some instr.now }
+    requires keeps { KeepsCount instr.now }
     requires held { AreHeld S.atom_id S.mem_id (S.heap store.old) set.old }
-    requires uses { AllUse (length set.old.atoms) (length set.old.membranes) (length set.old.parts) (length set.old.copies) (take at code.now) }
     requires reads { UsesInOrder (length set.old.atoms) (length set.old.membranes) (length set.old.parts) (length set.old.integers) (length set.old.copies) instr.now }
     requires unmarked { Unmarked (S.heap store.old) }
     requires parts { CanCopy S.atom_id (S.heap store.old) set.old }
     requires homes { AreAtHome S.atom_id (S.heap store.old) set.old.parts }
     requires rest { CanCopyRest S.atom_id S.mem_id (S.heap store.old) set.old instr.now }
-    requires counted { IsCounted S.atom_id S.mem_id (S.heap store.old) set.old (take (at + 1) code.now) counted.register counted.count }
-    requires to { (to : ℕ) → AddsSo instr.now (Some to) → counted.register ≡ to }
-    ensures ok { OnOk result (IsMade S.atom_id S.mem_id (S.heap store.old) (S.heap store.new) set.old set.new (take at code.now) instr.now) }
+    ensures ok { (before : List Instr) → OnOk result (IsMade S.atom_id S.mem_id (S.heap store.old) (S.heap store.new) set.old set.new before instr.now) }
     ensures makes { OnlyMakes (S.heap store.old) (S.heap store.new) }
 {
     match instr {
@@ -287,23 +262,69 @@ fn make<S: LinkStore>(
             };
             make_atom(alloc, store, functor, set)
         }
-        Instr::NewMem { .. } => make_membrane(alloc, store, set),
         Instr::CopyGround { part, .. } => {
             make_copy(alloc, store, set.parts.at(*part as usize), set)
-        }
-        Instr::LoadRule { membrane, .. } => {
-            let to = set.membranes.at(*membrane as usize);
-            reserve(alloc, store, to, counted.count)
-        }
-        Instr::CopyRules { to, .. } => {
-            let to = set.membranes.at(*to as usize);
-            reserve(alloc, store, to, counted.count)
         }
         Instr::CopyCells { from, .. } => {
             let from = set.membranes.at(*from as usize);
             copy_rest(alloc, store, set, from)
         }
         _ => Ok(()),
+    }
+}
+
+/// Makes what the instruction at a place of the code makes, and answers what is counted then. `counted` is what was counted before. A
+/// membrane that is made has no rules yet.
+#[inline(always)]
+fn make_next<S: LinkStore>(
+    alloc: Global,
+    store: &mut S,
+    code: &Body<'_>,
+    at: usize,
+    instr: &Instr,
+    counted: Counted,
+    set: &mut SetRegisters<S::Atom, S::Mem>,
+) -> Result<Counted, NoMemory>
+    requires at { slice_get code.now at ≡ Some instr.now }
+    requires held { AreHeld S.atom_id S.mem_id (S.heap store.old) set.old }
+    requires uses { AllUse (length set.old.atoms) (length set.old.membranes) (length set.old.parts) (length set.old.copies) (take at code.now) }
+    requires reads { UsesInOrder (length set.old.atoms) (length set.old.membranes) (length set.old.parts) (length set.old.integers) (length set.old.copies) instr.now }
+    requires unmarked { Unmarked (S.heap store.old) }
+    requires parts { CanCopy S.atom_id (S.heap store.old) set.old }
+    requires homes { AreAtHome S.atom_id (S.heap store.old) set.old.parts }
+    requires rest { CanCopyRest S.atom_id S.mem_id (S.heap store.old) set.old instr.now }
+    requires counted { IsCounted S.atom_id S.mem_id (S.heap store.old) set.old (take at code.now) counted.register counted.count }
+    ensures ok { OnOk result (IsMade S.atom_id S.mem_id (S.heap store.old) (S.heap store.new) set.old set.new (take at code.now) instr.now) }
+    ensures counted { IfOk result (λ next. IsCounted S.atom_id S.mem_id (S.heap store.new) set.new (take (at + 1) code.now) next.register next.count) }
+    ensures makes { OnlyMakes (S.heap store.old) (S.heap store.new) }
+{
+    match instr {
+        Instr::LoadRule { membrane, .. } => {
+            make_room(
+                alloc,
+                store,
+                code,
+                at,
+                instr,
+                *membrane as usize,
+                counted,
+                set,
+            )
+        }
+        Instr::CopyRules { to, .. } => {
+            make_room(alloc, store, code, at, instr, *to as usize, counted, set)
+        }
+        Instr::NewMem { membrane, .. } => {
+            make_membrane(alloc, store, set)?;
+            Ok(Counted {
+                register: *membrane as usize,
+                count: 0,
+            })
+        }
+        _ => {
+            make(alloc, store, instr, set)?;
+            Ok(counted)
+        }
     }
 }
 
@@ -328,9 +349,7 @@ fn make_all<S: LinkStore>(
     };
     for i in first..last {
         let instr = code.at(i);
-        let next = count_with(store, code, i, instr, set, counted)?;
-        make(alloc, store, code, i, instr, next, set)?;
-        counted = count_on(instr, next);
+        counted = make_next(alloc, store, code, i, instr, counted, set)?;
     }
     Ok(())
 }

@@ -1,58 +1,29 @@
-use Rattle.std.proofs.Common.{◌≡◌, ◌+◌, take, Some, length, ap, w64, refl, sym, subst, ◌∙◌}
+use Rattle.std.proofs.Common.{◌≡◌, Some, length, ap, w64, refl, sym, subst, ◌∙◌}
 use Rattle.std.proofs.lemmas.Result.{on_ok_weaker}
 use Rattle.std.proofs.lemmas.Int.{to_z-of_z}
 use Rattle.lmn_solid_bodies.specs.Running.{integer_functor}
-use Rattle.lmn_machine_commit.specs.Preparing.{AddsSo, HasClosedRest}
-use Rattle.lmn_machine_commit.proofs.Codes.{take_get}
-use Rattle.lmn_machine_commit.proofs.Counting.{room_to}
-use Rattle.lmn_machine_commit.proofs.Making.{new_atom_made, new_int_made, new_mem_made, copy_made, load_rule_made, copy_rules_made, rest_made, nothing_made}
+use Rattle.lmn_machine_commit.specs.Preparing.{HasClosedRest, KeepsCount}
+use Rattle.lmn_machine_commit.proofs.Making.{new_atom_made, new_int_made, copy_made, rest_made, nothing_made}
 use Rattle.lmn_machine_commit.proofs.Waiting.{makes_nothing}
 use Rattle.lmn_machine_commit.proofs.preparing.make.Goals as goal
 
 pub make_copy-requires-clause-part : goal.make_copy-requires-clause-part
 make_copy-requires-clause-part g c = c.requires.parts c.in-CopyGround.part c.at-in-CopyGround.result c.at-in-CopyGround.ensures
 
-pub reserve-requires : goal.reserve-requires
-reserve-requires g c = c.requires.held.membranes c.in-LoadRule.membrane c.at-to.result c.at-to.ensures
-
-pub reserve-requires-in-CopyRules : goal.reserve-requires-in-CopyRules
-reserve-requires-in-CopyRules g c = c.requires.held.membranes c.in-CopyRules.to c.at-to-in-CopyRules.result c.at-to-in-CopyRules.ensures
-
 pub returns-in-NewAtom-clause-ok : goal.returns-in-NewAtom-clause-ok
-returns-in-NewAtom-clause-ok g c = on_ok_weaker c.make_atom.result
-    (λ made. new_atom_made g.S.LinkStore.atom_id g.S.LinkStore.mem_id (g.S.LinkStore.heap c.args.store.now) (g.S.LinkStore.heap c.make_atom.new.store) c.args.set.now c.make_atom.new.set (take c.args.at c.args.code.now) c.args.instr.now c.in-NewAtom.functor
+returns-in-NewAtom-clause-ok g c = λ before. on_ok_weaker c.make_atom.result
+    (λ made. new_atom_made g.S.LinkStore.atom_id g.S.LinkStore.mem_id (g.S.LinkStore.heap c.args.store.now) (g.S.LinkStore.heap c.make_atom.new.store) c.args.set.now c.make_atom.new.set before c.args.instr.now c.in-NewAtom.functor
     c.requires.held made c.in-NewAtom.atom c.in-NewAtom.membrane c.in-NewAtom.is (length c.args.set.now.integers) (length c.args.set.now.copies) c.requires.reads) c.make_atom.ensures.ok
 
 pub returns-in-NewInt-clause-ok : goal.returns-in-NewInt-clause-ok
-returns-in-NewInt-clause-ok g c = on_ok_weaker c.make_atom-in-NewInt.result
-    (λ made. new_int_made g.S.LinkStore.atom_id g.S.LinkStore.mem_id (g.S.LinkStore.heap c.args.store.now) (g.S.LinkStore.heap c.make_atom-in-NewInt.new.store) c.args.set.now c.make_atom-in-NewInt.new.set (take c.args.at c.args.code.now) c.args.instr.now _
+returns-in-NewInt-clause-ok g c = λ before. on_ok_weaker c.make_atom-in-NewInt.result
+    (λ made. new_int_made g.S.LinkStore.atom_id g.S.LinkStore.mem_id (g.S.LinkStore.heap c.args.store.now) (g.S.LinkStore.heap c.make_atom-in-NewInt.new.store) c.args.set.now c.make_atom-in-NewInt.new.set before c.args.instr.now _
     c.requires.held made c.in-NewInt.atom c.in-NewInt.membrane c.in-NewInt.integer c.at.result c.in-NewInt.is (ap integer_functor (to_z-of_z w64 c.at.result (record { sfits = c.at.type_inv }))) c.at.ensures (length c.args.set.now.integers) (length c.args.set.now.copies) c.requires.reads) c.make_atom-in-NewInt.ensures.ok
 
-pub returns-in-NewMem-clause-ok : goal.returns-in-NewMem-clause-ok
-returns-in-NewMem-clause-ok g c = on_ok_weaker c.make_membrane.result
-    (λ made. new_mem_made g.S.LinkStore.atom_id g.S.LinkStore.mem_id (g.S.LinkStore.heap c.args.store.now) (g.S.LinkStore.heap c.make_membrane.new.store) c.args.set.now c.make_membrane.new.set (take c.args.at c.args.code.now) c.args.instr.now
-    c.requires.held made c.in-NewMem.membrane c.in-NewMem.inside c.in-NewMem.is (length c.args.set.now.integers) (length c.args.set.now.copies) c.requires.reads) c.make_membrane.ensures.ok
-
 pub returns-in-CopyGround-clause-ok : goal.returns-in-CopyGround-clause-ok
-returns-in-CopyGround-clause-ok g c = on_ok_weaker c.make_copy.result
-    (λ made. copy_made g.S.LinkStore.atom_id g.S.LinkStore.mem_id (g.S.LinkStore.heap c.args.store.now) (g.S.LinkStore.heap c.make_copy.new.store) c.args.set.now c.make_copy.new.set (take c.args.at c.args.code.now) c.args.instr.now
+returns-in-CopyGround-clause-ok g c = λ before. on_ok_weaker c.make_copy.result
+    (λ made. copy_made g.S.LinkStore.atom_id g.S.LinkStore.mem_id (g.S.LinkStore.heap c.args.store.now) (g.S.LinkStore.heap c.make_copy.new.store) c.args.set.now c.make_copy.new.set before c.args.instr.now
     c.in-CopyGround.copy c.in-CopyGround.membrane c.in-CopyGround.part c.at-in-CopyGround.result c.requires.held c.in-CopyGround.is c.at-in-CopyGround.ensures made (length c.args.set.now.integers) (length c.args.set.now.copies) refl c.requires.reads) c.make_copy.ensures.ok
-
-pub returns-in-LoadRule-clause-ok : goal.returns-in-LoadRule-clause-ok
-returns-in-LoadRule-clause-ok g c =
-    let adds : AddsSo c.args.instr.now (Some c.in-LoadRule.membrane) = subst (λ i. AddsSo i (Some c.in-LoadRule.membrane)) (sym c.in-LoadRule.is) refl in
-    room_to g.S.LinkStore.atom_id g.S.LinkStore.mem_id (g.S.LinkStore.heap c.args.store.now) (g.S.LinkStore.heap c.reserve.new.store) c.args.set.now (take (c.args.at + 1) c.args.code.now) c.args.counted.register c.args.counted.count
-    c.in-LoadRule.membrane c.at-to.result c.requires.counted (c.requires.to c.in-LoadRule.membrane adds) c.at-to.ensures c.reserve.result c.reserve.ensures.ok c.reserve.ensures.least
-    (λ made. load_rule_made g.S.LinkStore.atom_id g.S.LinkStore.mem_id (g.S.LinkStore.heap c.args.store.now) (g.S.LinkStore.heap c.reserve.new.store) c.args.set.now (take c.args.at c.args.code.now) (take (c.args.at + 1) c.args.code.now) c.args.instr.now
-    c.at-to.result c.in-LoadRule.membrane c.in-LoadRule.rule c.requires.held made (take_get c.args.at c.args.code.now c.args.instr.now c.requires.at) c.in-LoadRule.is c.at-to.ensures)
-
-pub returns-in-CopyRules-clause-ok : goal.returns-in-CopyRules-clause-ok
-returns-in-CopyRules-clause-ok g c =
-    let adds : AddsSo c.args.instr.now (Some c.in-CopyRules.to) = subst (λ i. AddsSo i (Some c.in-CopyRules.to)) (sym c.in-CopyRules.is) refl in
-    room_to g.S.LinkStore.atom_id g.S.LinkStore.mem_id (g.S.LinkStore.heap c.args.store.now) (g.S.LinkStore.heap c.reserve-in-CopyRules.new.store) c.args.set.now (take (c.args.at + 1) c.args.code.now) c.args.counted.register c.args.counted.count
-    c.in-CopyRules.to c.at-to-in-CopyRules.result c.requires.counted (c.requires.to c.in-CopyRules.to adds) c.at-to-in-CopyRules.ensures c.reserve-in-CopyRules.result c.reserve-in-CopyRules.ensures.ok c.reserve-in-CopyRules.ensures.least
-    (λ made. copy_rules_made g.S.LinkStore.atom_id g.S.LinkStore.mem_id (g.S.LinkStore.heap c.args.store.now) (g.S.LinkStore.heap c.reserve-in-CopyRules.new.store) c.args.set.now (take c.args.at c.args.code.now) (take (c.args.at + 1) c.args.code.now) c.args.instr.now
-    c.at-to-in-CopyRules.result c.in-CopyRules.from c.in-CopyRules.to c.requires.held made (take_get c.args.at c.args.code.now c.args.instr.now c.requires.at) c.in-CopyRules.is c.at-to-in-CopyRules.ensures)
 
 pub copy_rest-requires-clause-membrane : goal.copy_rest-requires-clause-membrane
 copy_rest-requires-clause-membrane g c = c.requires.held.membranes c.in-CopyCells.from c.at-from.result c.at-from.ensures
@@ -65,13 +36,13 @@ copy_rest-requires-clause-closed g c =
     subst (λ x. HasClosedRest g.S.LinkStore.atom_id g.S.LinkStore.mem_id (g.S.LinkStore.heap c.args.store.now) c.args.set.now (g.S.LinkStore.mem_id x)) one r.2
 
 pub returns-in-CopyCells-clause-ok : goal.returns-in-CopyCells-clause-ok
-returns-in-CopyCells-clause-ok g c = on_ok_weaker c.copy_rest.result
-    (λ made. rest_made g.S.LinkStore.atom_id g.S.LinkStore.mem_id (g.S.LinkStore.heap c.args.store.now) (g.S.LinkStore.heap c.copy_rest.new.store) c.args.set.now (take c.args.at c.args.code.now) c.args.instr.now
+returns-in-CopyCells-clause-ok g c = λ before. on_ok_weaker c.copy_rest.result
+    (λ made. rest_made g.S.LinkStore.atom_id g.S.LinkStore.mem_id (g.S.LinkStore.heap c.args.store.now) (g.S.LinkStore.heap c.copy_rest.new.store) c.args.set.now before c.args.instr.now
     c.in-CopyCells.from c.in-CopyCells.to c.at-from.result c.requires.held c.copy_rest.ensures.makes c.in-CopyCells.is c.at-from.ensures made) c.copy_rest.ensures.ok
 
 pub returns-in_default : goal.returns-in_default
 returns-in_default g c = record {
-  ok = nothing_made g.S.LinkStore.atom_id g.S.LinkStore.mem_id (g.S.LinkStore.heap c.args.store.now) c.args.set.now (take c.args.at c.args.code.now) c.args.instr.now c.requires.held (length c.args.set.now.integers) (length c.args.set.now.copies) c.requires.reads
-      (record { no_atom = c.in_default.not-NewAtom; no_integer = c.in_default.not-NewInt; no_mem = c.in_default.not-NewMem; no_copy = c.in_default.not-CopyGround; no_rule = c.in_default.not-LoadRule; no_rules = c.in_default.not-CopyRules; no_rest = c.in_default.not-CopyCells });
+  ok = λ before. nothing_made g.S.LinkStore.atom_id g.S.LinkStore.mem_id (g.S.LinkStore.heap c.args.store.now) c.args.set.now before c.args.instr.now c.requires.held (length c.args.set.now.integers) (length c.args.set.now.copies) c.requires.reads
+      (record { no_atom = c.in_default.not-NewAtom; no_integer = c.in_default.not-NewInt; no_mem = λ m n e. subst KeepsCount e c.requires.keeps; no_copy = c.in_default.not-CopyGround; no_rule = λ m k e. subst KeepsCount e c.requires.keeps; no_rules = λ m n e. subst KeepsCount e c.requires.keeps; no_rest = c.in_default.not-CopyCells });
   makes = makes_nothing (g.S.LinkStore.heap c.args.store.now);
 }

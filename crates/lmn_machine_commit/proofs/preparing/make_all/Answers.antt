@@ -2,7 +2,7 @@ use Rattle.std.proofs.Common.{◌+◌, take, drop, subst, sym, ap, length, ◌�
 use Rattle.lmn_machine_commit.specs.Preparing.{Prepared, BodyInOrder}
 use Rattle.lmn_store_heap.specs.Heap.{rules_in}
 use Rattle.lmn_machine_commit.proofs.Codes.{take_get}
-use Rattle.lmn_machine_commit.proofs.Counting.{counted_on, none_needed}
+use Rattle.lmn_machine_commit.proofs.Counting.{none_needed}
 use Rattle.lmn_machine_commit.proofs.Making.{prepared_nothing, prepared_more, in_order_next, still_copies}
 use Rattle.lmn_machine_commit.proofs.Waiting.{makes_on}
 use Rattle.lmn_machine_commit.proofs.Skipping.{pass_to}
@@ -12,19 +12,8 @@ use Rattle.lmn_machine_commit.proofs.Rules.{itself}
 use Rattle.lmn_machine_commit.proofs.preparing.make_all.Goals as goal
 use Rattle.lmn_base.proofs.Lists.{drop_get}
 
-pub count_with-requires-clause-reads : goal.count_with-requires-clause-reads
-count_with-requires-clause-reads g c =
-    let ahead = drop_get c.loop-i.i c.args.code.now c.at-instr.result.now c.at-instr.ensures in
-    (subst (λ is. BodyInOrder (length c.loop-i.set.atoms) (length c.loop-i.set.membranes) (length c.loop-i.set.parts) (length c.loop-i.set.integers) (length c.loop-i.set.copies) is) ahead c.loop-i.invariant.order).0
-
-pub count_with-requires-clause-at : goal.count_with-requires-clause-at
-count_with-requires-clause-at g c = c.at-instr.ensures
-
-pub returns-in_err-next-clause-makes : goal.returns-in_err-next-clause-makes
-returns-in_err-next-clause-makes g c = c.loop-i.invariant.done.makes
-
-pub make-requires-clause-reads : goal.make-requires-clause-reads
-make-requires-clause-reads g c =
+pub make_next-requires-clause-reads : goal.make_next-requires-clause-reads
+make_next-requires-clause-reads g c =
     let ahead = drop_get c.loop-i.i c.args.code.now c.at-instr.result.now c.at-instr.ensures in
     (subst (λ is. BodyInOrder (length c.loop-i.set.atoms) (length c.loop-i.set.membranes) (length c.loop-i.set.parts) (length c.loop-i.set.integers) (length c.loop-i.set.copies) is) ahead c.loop-i.invariant.order).0
 
@@ -51,24 +40,24 @@ loop-i-init g c =
       counted = λ r m u e. sym (none_needed r (rules_in h) c.args.code.now c.first_made-first.result (g.S.LinkStore.mem_id m) c.first_made-first.ensures.none);
     }
 
-pub make-requires-clause-at : goal.make-requires-clause-at
-make-requires-clause-at g c = c.at-instr.ensures
+pub make_next-requires-clause-at : goal.make_next-requires-clause-at
+make_next-requires-clause-at g c = c.at-instr.ensures
 
-pub make-requires-clause-unmarked : goal.make-requires-clause-unmarked
-make-requires-clause-unmarked g c = c.loop-i.invariant.done.makes.unmarked c.requires.unmarked
+pub make_next-requires-clause-unmarked : goal.make_next-requires-clause-unmarked
+make_next-requires-clause-unmarked g c = c.loop-i.invariant.done.makes.unmarked c.requires.unmarked
 
-pub make-requires-clause-parts : goal.make-requires-clause-parts
-make-requires-clause-parts g c = still_copies g.S.LinkStore.atom_id g.S.LinkStore.mem_id (g.S.LinkStore.heap c.args.store.now) (g.S.LinkStore.heap c.loop-i.store) c.args.set.now c.loop-i.set (take c.loop-i.i c.args.code.now)
+pub make_next-requires-clause-parts : goal.make_next-requires-clause-parts
+make_next-requires-clause-parts g c = still_copies g.S.LinkStore.atom_id g.S.LinkStore.mem_id (g.S.LinkStore.heap c.args.store.now) (g.S.LinkStore.heap c.loop-i.store) c.args.set.now c.loop-i.set (take c.loop-i.i c.args.code.now)
     c.requires.valid.sound.paired c.loop-i.invariant.done c.requires.can.parts
 
-pub make-requires-clause-homes : goal.make-requires-clause-homes
-make-requires-clause-homes g c = still_at_home g.S.LinkStore.atom_id g.S.LinkStore.mem_id (g.S.LinkStore.heap c.args.store.now) (g.S.LinkStore.heap c.loop-i.store) c.requires.valid c.loop-i.invariant.done.makes (c.loop-i.invariant.done.makes.rest (g.S.LinkStore.heap c.args.store.now) (itself (g.S.LinkStore.heap c.args.store.now) c.requires.valid).1) c.args.set.now c.loop-i.set c.loop-i.invariant.done.grows c.loop-i.invariant.apart c.requires.can.parts c.requires.can.homes
+pub make_next-requires-clause-homes : goal.make_next-requires-clause-homes
+make_next-requires-clause-homes g c = still_at_home g.S.LinkStore.atom_id g.S.LinkStore.mem_id (g.S.LinkStore.heap c.args.store.now) (g.S.LinkStore.heap c.loop-i.store) c.requires.valid c.loop-i.invariant.done.makes (c.loop-i.invariant.done.makes.rest (g.S.LinkStore.heap c.args.store.now) (itself (g.S.LinkStore.heap c.args.store.now) c.requires.valid).1) c.args.set.now c.loop-i.set c.loop-i.invariant.done.grows c.loop-i.invariant.apart c.requires.can.parts c.requires.can.homes
 
-pub make-requires-clause-rest : goal.make-requires-clause-rest
-make-requires-clause-rest g c = still_copied_rests g.S.LinkStore.atom_id g.S.LinkStore.mem_id (g.S.LinkStore.heap c.args.store.now) (g.S.LinkStore.heap c.loop-i.store) c.requires.valid c.loop-i.invariant.done.makes (c.loop-i.invariant.done.makes.rest (g.S.LinkStore.heap c.args.store.now) (itself (g.S.LinkStore.heap c.args.store.now) c.requires.valid).1) c.args.set.now c.loop-i.set c.loop-i.invariant.done.grows c.loop-i.invariant.apart c.requires.can.parts c.requires.can.held c.args.code.now c.loop-i.i c.at-instr.result.now c.at-instr.ensures c.requires.can.rests
+pub make_next-requires-clause-rest : goal.make_next-requires-clause-rest
+make_next-requires-clause-rest g c = still_copied_rests g.S.LinkStore.atom_id g.S.LinkStore.mem_id (g.S.LinkStore.heap c.args.store.now) (g.S.LinkStore.heap c.loop-i.store) c.requires.valid c.loop-i.invariant.done.makes (c.loop-i.invariant.done.makes.rest (g.S.LinkStore.heap c.args.store.now) (itself (g.S.LinkStore.heap c.args.store.now) c.requires.valid).1) c.args.set.now c.loop-i.set c.loop-i.invariant.done.grows c.loop-i.invariant.apart c.requires.can.parts c.requires.can.held c.args.code.now c.loop-i.i c.at-instr.result.now c.at-instr.ensures c.requires.can.rests
 
-pub returns-in_err-make-clause-makes : goal.returns-in_err-make-clause-makes
-returns-in_err-make-clause-makes g c = makes_on (g.S.LinkStore.heap c.args.store.now) (g.S.LinkStore.heap c.loop-i.store) (g.S.LinkStore.heap c.make.new.store) c.loop-i.invariant.done.makes c.make.ensures.makes
+pub returns-in_err-counted-clause-makes : goal.returns-in_err-counted-clause-makes
+returns-in_err-counted-clause-makes g c = makes_on (g.S.LinkStore.heap c.args.store.now) (g.S.LinkStore.heap c.loop-i.store) (g.S.LinkStore.heap c.make_next.new.store) c.loop-i.invariant.done.makes c.make_next.ensures.makes
 
 pub loop-i-preserved : goal.loop-i-preserved
 loop-i-preserved g c =
@@ -76,17 +65,16 @@ loop-i-preserved g c =
     let ahead = drop_get c.loop-i.i c.args.code.now c.at-instr.result.now here in
     let order : BodyInOrder (length c.loop-i.set.atoms) (length c.loop-i.set.membranes) (length c.loop-i.set.parts) (length c.loop-i.set.integers) (length c.loop-i.set.copies) (c.at-instr.result.now ∷ drop (c.loop-i.i + 1) c.args.code.now) =
     subst (λ is. BodyInOrder (length c.loop-i.set.atoms) (length c.loop-i.set.membranes) (length c.loop-i.set.parts) (length c.loop-i.set.integers) (length c.loop-i.set.copies) is) ahead c.loop-i.invariant.order in
-    let made = c.in_ok-make.ensures.ok in
+    let made = c.in_ok-counted.ensures.ok in
     record {
-      done = subst (λ is. Prepared g.S.LinkStore.atom_id g.S.LinkStore.mem_id (g.S.LinkStore.heap c.args.store.now) (g.S.LinkStore.heap c.make.new.store) c.args.set.now c.make.new.set is) (sym (take_get c.loop-i.i c.args.code.now c.at-instr.result.now here))
-          (prepared_more g.S.LinkStore.atom_id g.S.LinkStore.mem_id (g.S.LinkStore.heap c.args.store.now) (g.S.LinkStore.heap c.loop-i.store) (g.S.LinkStore.heap c.make.new.store) c.args.set.now c.loop-i.set c.make.new.set (take c.loop-i.i c.args.code.now) c.at-instr.result.now (length c.loop-i.set.integers)
-          c.loop-i.invariant.done made c.make.ensures.makes
+      done = subst (λ is. Prepared g.S.LinkStore.atom_id g.S.LinkStore.mem_id (g.S.LinkStore.heap c.args.store.now) (g.S.LinkStore.heap c.make_next.new.store) c.args.set.now c.make_next.new.set is) (sym (take_get c.loop-i.i c.args.code.now c.at-instr.result.now here))
+          (prepared_more g.S.LinkStore.atom_id g.S.LinkStore.mem_id (g.S.LinkStore.heap c.args.store.now) (g.S.LinkStore.heap c.loop-i.store) (g.S.LinkStore.heap c.make_next.new.store) c.args.set.now c.loop-i.set c.make_next.new.set (take c.loop-i.i c.args.code.now) c.at-instr.result.now (length c.loop-i.set.integers)
+          c.loop-i.invariant.done made c.make_next.ensures.makes
           (still_holds g.S.LinkStore.atom_id g.S.LinkStore.mem_id (g.S.LinkStore.heap c.args.store.now) (g.S.LinkStore.heap c.loop-i.store) c.requires.valid c.loop-i.invariant.done.makes (c.loop-i.invariant.done.makes.rest (g.S.LinkStore.heap c.args.store.now) (itself (g.S.LinkStore.heap c.args.store.now) c.requires.valid).1) c.args.set.now c.loop-i.set c.loop-i.invariant.done.grows c.loop-i.invariant.apart c.requires.can.parts c.requires.can.held c.args.code.now c.loop-i.i c.at-instr.result.now here c.requires.can.rests) order.0);
-      apart = apart_more g.S.LinkStore.atom_id g.S.LinkStore.mem_id (g.S.LinkStore.heap c.args.store.now) (g.S.LinkStore.heap c.loop-i.store) c.requires.valid c.loop-i.invariant.done.makes (c.loop-i.invariant.done.makes.rest (g.S.LinkStore.heap c.args.store.now) (itself (g.S.LinkStore.heap c.args.store.now) c.requires.valid).1) c.args.set.now c.loop-i.set c.loop-i.invariant.done.grows c.loop-i.invariant.apart c.requires.can.parts c.make.new.set made.new_atoms made.new_membranes;
-      order = in_order_next g.S.LinkStore.atom_id g.S.LinkStore.mem_id c.loop-i.set c.make.new.set c.at-instr.result.now (drop (c.loop-i.i + 1) c.args.code.now) made.atoms made.membranes made.grows.parts made.grows.integers made.copies order;
+      apart = apart_more g.S.LinkStore.atom_id g.S.LinkStore.mem_id (g.S.LinkStore.heap c.args.store.now) (g.S.LinkStore.heap c.loop-i.store) c.requires.valid c.loop-i.invariant.done.makes (c.loop-i.invariant.done.makes.rest (g.S.LinkStore.heap c.args.store.now) (itself (g.S.LinkStore.heap c.args.store.now) c.requires.valid).1) c.args.set.now c.loop-i.set c.loop-i.invariant.done.grows c.loop-i.invariant.apart c.requires.can.parts c.make_next.new.set made.new_atoms made.new_membranes;
+      order = in_order_next g.S.LinkStore.atom_id g.S.LinkStore.mem_id c.loop-i.set c.make_next.new.set c.at-instr.result.now (drop (c.loop-i.i + 1) c.args.code.now) made.atoms made.membranes made.grows.parts made.grows.integers made.copies order;
       within = (let before = c.loop-i-test.true in let few = c.last_made-last.ensures.within in omega (arith, before, few));
-      counted = counted_on g.S.LinkStore.atom_id g.S.LinkStore.mem_id (g.S.LinkStore.heap c.loop-i.store) (g.S.LinkStore.heap c.make.new.store) c.loop-i.set c.make.new.set (take c.loop-i.i c.args.code.now) c.at-instr.result.now (length c.loop-i.set.integers) c.in_ok-next.next.register c.in_ok-next.next.count c.count_on-counted.result.register c.count_on-counted.result.count
-          made c.loop-i.invariant.done.held c.loop-i.invariant.done.uses order.0 (take (c.loop-i.i + 1) c.args.code.now) (take_get c.loop-i.i c.args.code.now c.at-instr.result.now here) c.in_ok-next.ensures.counted c.count_on-counted.ensures;
+      counted = c.in_ok-counted.ensures.counted;
     }
 
 pub returns-clause-ok : goal.returns-clause-ok
