@@ -12,7 +12,7 @@ ghost use Rattle.lmn_machine_commit.specs.Waking.{Commits};
 
 use crate::splicing::{relink, unify};
 use crate::waking::wake;
-use lmn_ground::{drop_cells, place_cells, take_part};
+use lmn_ground::{Found, drop_cells, place_cells, take_part};
 use lmn_instr_code::{AtomPort, Instr, NewPort};
 use lmn_instr_pool::Body;
 use lmn_machine_registers::SetRegisters;
@@ -50,7 +50,12 @@ fn place_atoms<S: LinkStore>(store: &mut S, count: u64, m: S::Mem)
 }
 
 /// Does what an instruction does.
-fn run<S: LinkStore>(store: &mut S, instr: &Instr, set: &SetRegisters<S::Atom, S::Mem>)
+fn run<S: LinkStore>(
+    store: &mut S,
+    instr: &Instr,
+    set: &SetRegisters<S::Atom, S::Mem>,
+    trail: &mut Found<S::Atom>,
+)
     requires unmarked { Unmarked (S.heap store.old) }
     requires uses { Uses (length set.now.atoms) (length set.now.membranes) (length set.now.parts) (length set.now.copies) instr.now }
     requires can { (r : Registers) × AgreesWithCopies S.atom_id S.mem_id set.now r × Can r instr.now (S.heap store.old) × Stands r instr.now (S.heap store.old) }
@@ -59,7 +64,7 @@ fn run<S: LinkStore>(store: &mut S, instr: &Instr, set: &SetRegisters<S::Atom, S
     let _root = store.root();
     match instr {
         Instr::RemoveAtom { atom } => store.take_atom(set.atoms.at(*atom as usize)),
-        Instr::RemovePart { part } => take_part(store, set.parts.at(*part as usize)),
+        Instr::RemovePart { part } => take_part(store, set.parts.at(*part as usize), trail),
         Instr::RemoveMem { membrane } => store.take_mem(set.membranes.at(*membrane as usize)),
         Instr::NewAtom { membrane, .. } => {
             let _atom = store.place_atom(set.membranes.at(*membrane as usize));
@@ -128,7 +133,12 @@ fn at(code: &[Instr], i: usize) -> &Instr
 
 /// Does what code does, one instruction after the other.
 #[inline(always)]
-fn run_each<S: LinkStore>(store: &mut S, code: &[Instr], set: &SetRegisters<S::Atom, S::Mem>)
+fn run_each<S: LinkStore>(
+    store: &mut S,
+    code: &[Instr],
+    set: &SetRegisters<S::Atom, S::Mem>,
+    trail: &mut Found<S::Atom>,
+)
     requires unmarked { Unmarked (S.heap store.old) }
     requires uses { AllUse (length set.now.atoms) (length set.now.membranes) (length set.now.parts) (length set.now.copies) code.now }
     requires runs { (r : Registers) × AgreesWithCopies S.atom_id S.mem_id set.now r × Runs r code.now (S.heap store.old) }
@@ -136,26 +146,36 @@ fn run_each<S: LinkStore>(store: &mut S, code: &[Instr], set: &SetRegisters<S::A
     ensures unmarked { Unmarked (S.heap store.new) }
 {
     for i in 0..code.len() {
-        run(store, at(code, i), set);
+        run(store, at(code, i), set, trail);
     }
 }
 
 /// Does what code does.
-fn run_all<S: LinkStore>(store: &mut S, code: &Body<'_>, set: &SetRegisters<S::Atom, S::Mem>)
+fn run_all<S: LinkStore>(
+    store: &mut S,
+    code: &Body<'_>,
+    set: &SetRegisters<S::Atom, S::Mem>,
+    trail: &mut Found<S::Atom>,
+)
     requires unmarked { Unmarked (S.heap store.old) }
     requires uses { AllUse (length set.now.atoms) (length set.now.membranes) (length set.now.parts) (length set.now.copies) code.now }
     requires runs { (r : Registers) × AgreesWithCopies S.atom_id S.mem_id set.now r × Runs r code.now (S.heap store.old) }
     ensures commits { (r : Registers) → AgreesWithCopies S.atom_id S.mem_id set.now r → Runs r code.now (S.heap store.old) → DoesAll r code.now (S.heap store.old) (S.heap store.new) }
     ensures unmarked { Unmarked (S.heap store.new) }
 {
-    run_each(store, code.as_slice(), set);
+    run_each(store, code.as_slice(), set, trail);
 }
 
 /// Does what code does, after it was matched and prepared: a rule is fired. The code may be that of a rule or not; what is
 /// asked of it is that its instructions can be run one after the other and leave a valid store. It takes no memory and can't
 /// fail, and leaves a valid store in which every mark of an atom is 0. What the code rouses is awake then, with all that is round
-/// it, and each other membrane keeps its mark.
-pub fn commit<S: LinkStore>(store: &mut S, code: &Body<'_>, set: &SetRegisters<S::Atom, S::Mem>)
+/// it, and each other membrane keeps its mark. Walks use the room of `trail`, whatever it holds.
+pub fn commit<S: LinkStore>(
+    store: &mut S,
+    code: &Body<'_>,
+    set: &SetRegisters<S::Atom, S::Mem>,
+    trail: &mut Found<S::Atom>,
+)
     requires { IsPrepared S.atom_id S.mem_id (S.heap store.old) set.now code.now }
     ensures fires { (p : IsPrepared S.atom_id S.mem_id (S.heap store.old) set.now code.now) (r : Registers) → AgreesWithCopies S.atom_id S.mem_id set.now r → HasCopies r p.prepared.copied → HasRests S.atom_id S.mem_id p.before p.matched_by r →
         Commits p.before r code.now (S.heap store.new) }
@@ -164,6 +184,6 @@ pub fn commit<S: LinkStore>(store: &mut S, code: &Body<'_>, set: &SetRegisters<S
 {
     let _before = store.root();
     wake(store, code, set);
-    run_all(store, code, set);
+    run_all(store, code, set, trail);
     let _after = store.root();
 }

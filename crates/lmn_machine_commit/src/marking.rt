@@ -9,7 +9,7 @@ ghost use Rattle.lmn_ground.specs.Spread.{IsWhole};
 ghost use Rattle.lmn_machine_commit.specs.OwnMarks.{AreWholeParts, HasOwnMarks, IsInPartInside, IsOneInside, IsTakenInside};
 ghost use Rattle.lmn_machine_commit.specs.Registers.{AreAtomHandles};
 
-use lmn_ground::paint;
+use lmn_ground::{Found, paint};
 use lmn_machine_registers::{SetRegisters, Stack};
 use lmn_store_trait::LinkStore;
 
@@ -56,7 +56,13 @@ fn mark_atoms<S: LinkStore>(store: &mut S, atoms: &Stack<S::Atom>, m: S::Mem, ma
 }
 
 /// Sets the own marks of the atoms of a part, where its root stands in a membrane.
-fn paint_inside<S: LinkStore>(store: &mut S, part: (S::Atom, u8), m: S::Mem, mark: u64)
+fn paint_inside<S: LinkStore>(
+    store: &mut S,
+    part: (S::Atom, u8),
+    m: S::Mem,
+    mark: u64,
+    trail: &mut Found<S::Atom>,
+)
     requires marked { HasOwnMarks (S.heap store.old) }
     requires atom { IsAtom (S.heap store.old) (S.atom_id part.0) }
     requires port { part.1 < arity_of (S.heap store.old) (S.atom_id part.0) }
@@ -65,28 +71,36 @@ fn paint_inside<S: LinkStore>(store: &mut S, part: (S::Atom, u8), m: S::Mem, mar
     ensures { (all : List ℕ) × ((b : ℕ) → In b all ↔ ((home_of (S.heap store.old) (S.atom_id part.0) ≡ Some (S.mem_id m)) × Reached (atom_map (S.heap store.old)) (S.atom_id part.0, part.1) b)) × (S.heap store.new ≡ own_marked mark all (S.heap store.old)) }
 {
     if has_home(store, part.0, m) {
-        paint(store, part, mark);
+        paint(store, part, mark, trail);
     }
 }
 
 /// Sets the own marks of the atoms of those parts whose roots stand in a membrane.
-fn paint_parts<S: LinkStore>(store: &mut S, parts: &Stack<(S::Atom, u8)>, m: S::Mem, mark: u64)
+fn paint_parts<S: LinkStore>(
+    store: &mut S,
+    parts: &Stack<(S::Atom, u8)>,
+    m: S::Mem,
+    mark: u64,
+    trail: &mut Found<S::Atom>,
+)
     requires marked { HasOwnMarks (S.heap store.old) }
     requires parts { AreWholeParts S.atom_id (S.heap store.old) parts.now }
     requires membrane { IsMem (S.heap store.old) (S.mem_id m) }
     ensures { (all : List ℕ) × ((b : ℕ) → In b all ↔ IsInPartInside S.atom_id (S.heap store.old) parts.now (S.mem_id m) b) × (S.heap store.new ≡ own_marked mark all (S.heap store.old)) }
 {
     for i in 0..parts.len() {
-        paint_inside(store, parts.at(i), m, mark);
+        paint_inside(store, parts.at(i), m, mark, trail);
     }
 }
 
-/// Sets the own marks of the atoms that are in registers or in parts in registers and stand in a membrane.
+/// Sets the own marks of the atoms that are in registers or in parts in registers and stand in a membrane. Walks use the room of
+/// `trail`, whatever it holds.
 pub fn mark_taken<S: LinkStore>(
     store: &mut S,
     set: &SetRegisters<S::Atom, S::Mem>,
     m: S::Mem,
     mark: u64,
+    trail: &mut Found<S::Atom>,
 )
     requires marked { HasOwnMarks (S.heap store.old) }
     requires held { AreAtomHandles S.atom_id (S.heap store.old) set.now.atoms }
@@ -95,5 +109,5 @@ pub fn mark_taken<S: LinkStore>(
     ensures { (all : List ℕ) × ((b : ℕ) → In b all ↔ IsTakenInside S.atom_id (S.heap store.old) set.now (S.mem_id m) b) × (S.heap store.new ≡ own_marked mark all (S.heap store.old)) }
 {
     mark_atoms(store, &set.atoms, m, mark);
-    paint_parts(store, &set.parts, m, mark);
+    paint_parts(store, &set.parts, m, mark, trail);
 }

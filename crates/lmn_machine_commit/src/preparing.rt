@@ -11,7 +11,7 @@ ghost use Rattle.lmn_instr_code.specs.declared.instr.Instr.{Instr};
 
 use crate::marking::mark_taken;
 use lmn_base::{Functor, Label, NoMemory};
-use lmn_ground::{MATCHED, copy_cells, copy_counted};
+use lmn_ground::{Found, MATCHED, copy_cells, copy_counted};
 use lmn_instr_code::Instr;
 use lmn_instr_pool::Body;
 use lmn_machine_registers::{PartCopy, SetRegisters};
@@ -179,6 +179,7 @@ fn copy_rest<S: LinkStore>(
     store: &mut S,
     set: &SetRegisters<S::Atom, S::Mem>,
     m: S::Mem,
+    trail: &mut Found<S::Atom>,
 ) -> Result<(), NoMemory>
     requires unmarked { Unmarked (S.heap store.old) }
     requires held { AreHeld S.atom_id S.mem_id (S.heap store.old) set.now }
@@ -190,9 +191,9 @@ fn copy_rest<S: LinkStore>(
     ensures makes { OnlyMakes (S.heap store.old) (S.heap store.new) }
 {
     let _root = store.root();
-    mark_taken(store, set, m, MATCHED);
+    mark_taken(store, set, m, MATCHED, trail);
     let copied = copy_cells(alloc, store, m, set.membranes.as_slice());
-    mark_taken(store, set, m, 0);
+    mark_taken(store, set, m, 0, trail);
     copied
 }
 
@@ -242,6 +243,7 @@ fn make<S: LinkStore>(
     store: &mut S,
     instr: &Instr,
     set: &mut SetRegisters<S::Atom, S::Mem>,
+    trail: &mut Found<S::Atom>,
 ) -> Result<(), NoMemory>
     requires keeps { KeepsCount instr.now }
     requires held { AreHeld S.atom_id S.mem_id (S.heap store.old) set.old }
@@ -267,7 +269,7 @@ fn make<S: LinkStore>(
         }
         Instr::CopyCells { from, .. } => {
             let from = set.membranes.at(*from as usize);
-            copy_rest(alloc, store, set, from)
+            copy_rest(alloc, store, set, from, trail)
         }
         _ => Ok(()),
     }
@@ -284,6 +286,7 @@ fn make_next<S: LinkStore>(
     instr: &Instr,
     counted: Counted,
     set: &mut SetRegisters<S::Atom, S::Mem>,
+    trail: &mut Found<S::Atom>,
 ) -> Result<Counted, NoMemory>
     requires at { slice_get code.now at ≡ Some instr.now }
     requires held { AreHeld S.atom_id S.mem_id (S.heap store.old) set.old }
@@ -322,7 +325,7 @@ fn make_next<S: LinkStore>(
             })
         }
         _ => {
-            make(alloc, store, instr, set)?;
+            make(alloc, store, instr, set, trail)?;
             Ok(counted)
         }
     }
@@ -334,6 +337,7 @@ fn make_all<S: LinkStore>(
     store: &mut S,
     code: &Body<'_>,
     set: &mut SetRegisters<S::Atom, S::Mem>,
+    trail: &mut Found<S::Atom>,
 ) -> Result<(), NoMemory>
     requires valid { Valid (S.heap store.old) }
     requires unmarked { Unmarked (S.heap store.old) }
@@ -349,19 +353,20 @@ fn make_all<S: LinkStore>(
     };
     for i in first..last {
         let instr = code.at(i);
-        counted = make_next(alloc, store, code, i, instr, counted, set)?;
+        counted = make_next(alloc, store, code, i, instr, counted, set, trail)?;
     }
     Ok(())
 }
 
 /// Makes all that the code of a body makes, detached, and room for the rules that it adds. The registers of the head
 /// are set before, those of what is made afterwards. No link leaves what it copies. Want of memory leaves the store as it was, but for room for
-/// rules.
+/// rules. Walks use the room of `trail`, whatever it holds.
 pub fn prepare<S: LinkStore>(
     alloc: Global,
     store: &mut S,
     code: &Body<'_>,
     set: &mut SetRegisters<S::Atom, S::Mem>,
+    trail: &mut Found<S::Atom>,
 ) -> Result<(), NoMemory>
     requires valid { Valid (S.heap store.old) }
     requires unmarked { Unmarked (S.heap store.old) }
@@ -371,7 +376,7 @@ pub fn prepare<S: LinkStore>(
     ensures valid { OnErr result (Valid (S.heap store.new)) }
     ensures unmarked { Unmarked (S.heap store.new) }
 {
-    match make_all(alloc, store, code, set) {
+    match make_all(alloc, store, code, set, trail) {
         Ok(()) => Ok(()),
         Err(error) => {
             store.discard();
