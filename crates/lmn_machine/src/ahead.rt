@@ -261,6 +261,7 @@ pub fn asked(code: &Instrs<'_>, at: usize, register: usize) -> Option<Functor>
 }
 
 /// Whether a membrane holds an atom with the functor that is asked, if one is.
+#[inline(always)]
 fn holds<S: LinkStore>(store: &S, m: S::Mem, asked: Option<Functor>) -> bool
     requires { IsMem (S.heap store.now) (S.mem_id m) }
     ensures { IsFalse result → HoldsAsked (S.heap store.now) asked (S.mem_id m) → ⊥ }

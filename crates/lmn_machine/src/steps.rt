@@ -217,8 +217,8 @@ fn run_atom_test<S: LinkStore>(
     outcome_of(check_atoms(store, set, instr))
 }
 
-/// Runs a test of membranes.
-#[inline(always)]
+/// Runs a test of membranes. It is no part of its caller.
+#[inline(never)]
 fn run_membrane_test<S: LinkStore>(
     store: &S,
     set: &SetRegisters<S::Atom, S::Mem>,
@@ -281,6 +281,21 @@ fn find_part<S: LinkStore>(
     }
 }
 
+/// Runs an instruction that looks for a typed context which may be larger than an integer. It is no part of its caller.
+#[inline(never)]
+fn find_part_apart<S: LinkStore>(
+    store: &mut S,
+    set: &mut SetRegisters<S::Atom, S::Mem>,
+    instr: &Instr,
+) -> Outcome
+    requires ready { CanStep S.atom_id S.mem_id (S.heap store.old) set.old instr.now }
+    requires finds { FindsPart instr.now }
+    ensures same { S.heap store.new ≡ S.heap store.old }
+    ensures stepped { HasOutcome S.atom_id S.mem_id (S.heap store.old) set.old set.new result instr.now }
+{
+    find_part(store, set, instr)
+}
+
 /// Runs an instruction that reads typed contexts which are set.
 #[inline(always)]
 fn read_parts<S: LinkStore>(
@@ -323,6 +338,21 @@ fn read_parts<S: LinkStore>(
         }
         _ => Outcome::Fails,
     }
+}
+
+/// Runs an instruction that reads typed contexts. It is no part of its caller.
+#[inline(never)]
+fn read_parts_apart<S: LinkStore>(
+    store: &mut S,
+    set: &mut SetRegisters<S::Atom, S::Mem>,
+    instr: &Instr,
+) -> Outcome
+    requires ready { CanStep S.atom_id S.mem_id (S.heap store.old) set.old instr.now }
+    requires reads { ReadsParts instr.now }
+    ensures same { S.heap store.new ≡ S.heap store.old }
+    ensures stepped { HasOutcome S.atom_id S.mem_id (S.heap store.old) set.old set.new result instr.now }
+{
+    read_parts(store, set, instr)
 }
 
 /// Runs an instruction that sets an integer by a constant or by two that are set.
@@ -376,6 +406,16 @@ fn compute<A: Copy, M: Copy>(set: &mut SetRegisters<A, M>, instr: &Instr) -> Out
     }
 }
 
+/// Runs an instruction that sets an integer. It is no part of its caller.
+#[inline(never)]
+fn compute_apart<A: Copy, M: Copy>(set: &mut SetRegisters<A, M>, instr: &Instr) -> Outcome
+    requires order { HeadInOrder (length set.old.atoms) (length set.old.membranes) (length set.old.parts) (length set.old.integers) (instr.now ∷ []) }
+    requires computes { ComputesInteger instr.now }
+    ensures { (atom : A → ℕ) (membrane : M → ℕ) (h : Heap) → AreHeldWhole atom membrane h set.old → HasOutcome atom membrane h set.old set.new result instr.now }
+{
+    compute(set, instr)
+}
+
 /// Runs an instruction, unless it makes a choice.
 #[inline(always)]
 pub fn step<S: LinkStore>(
@@ -391,22 +431,22 @@ pub fn step<S: LinkStore>(
         Instr::FindAtom { .. } => Outcome::ChoosesAtom,
         Instr::AnyMem { .. } => Outcome::ChoosesMembrane,
         Instr::Deref { from, port, .. } => outcome_of(follow(store, set, *from, *port)),
-        // Each of these is an arm of its own, so that one jump leads to what it does. It calls what knows its kind alone: `step` is
-        // to be small enough to be a part of both searches.
+        // Each of these is an arm of its own, so that one jump leads to what it does. What most heads ask is a part of `step`, and all
+        // else is called: `step` is to be small enough to be a part of both searches.
         Instr::IsInt { .. } => find_part(store, set, instr),
-        Instr::IsUnary { .. } => find_part(store, set, instr),
-        Instr::IsGround { .. } => find_part(store, set, instr),
-        Instr::EqGround { .. } => read_parts(store, set, instr),
-        Instr::NeqGround { .. } => read_parts(store, set, instr),
-        Instr::NAtoms { .. } => read_parts(store, set, instr),
-        Instr::IsClosed { .. } => read_parts(store, set, instr),
+        Instr::IsUnary { .. } => find_part_apart(store, set, instr),
+        Instr::IsGround { .. } => find_part_apart(store, set, instr),
+        Instr::EqGround { .. } => read_parts_apart(store, set, instr),
+        Instr::NeqGround { .. } => read_parts_apart(store, set, instr),
+        Instr::NAtoms { .. } => read_parts_apart(store, set, instr),
+        Instr::IsClosed { .. } => read_parts_apart(store, set, instr),
         Instr::GetInt { .. } => read_parts(store, set, instr),
         Instr::Const { .. } => compute(set, instr),
         Instr::Add { .. } => compute(set, instr),
-        Instr::Sub { .. } => compute(set, instr),
-        Instr::Mul { .. } => compute(set, instr),
-        Instr::Div { .. } => compute(set, instr),
-        Instr::Mod { .. } => compute(set, instr),
+        Instr::Sub { .. } => compute_apart(set, instr),
+        Instr::Mul { .. } => compute_apart(set, instr),
+        Instr::Div { .. } => compute_apart(set, instr),
+        Instr::Mod { .. } => compute_apart(set, instr),
         Instr::Func { .. } => run_atom_test(store, set, instr),
         Instr::InMem { .. } => run_atom_test(store, set, instr),
         Instr::NeqAtom { .. } => run_atom_test(store, set, instr),

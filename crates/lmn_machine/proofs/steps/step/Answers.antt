@@ -30,13 +30,13 @@ pub returns-in-Add-clause-stepped : goal.returns-in-Add-clause-stepped
 returns-in-Add-clause-stepped g c = c.compute-in-Add.ensures g.S.LinkStore.atom_id g.S.LinkStore.mem_id (g.S.LinkStore.heap c.args.store.now) c.requires.held
 
 pub returns-in-Sub-clause-stepped : goal.returns-in-Sub-clause-stepped
-returns-in-Sub-clause-stepped g c = c.compute-in-Sub.ensures g.S.LinkStore.atom_id g.S.LinkStore.mem_id (g.S.LinkStore.heap c.args.store.now) c.requires.held
+returns-in-Sub-clause-stepped g c = c.compute_apart.ensures g.S.LinkStore.atom_id g.S.LinkStore.mem_id (g.S.LinkStore.heap c.args.store.now) c.requires.held
 
 pub returns-in-Mul-clause-stepped : goal.returns-in-Mul-clause-stepped
-returns-in-Mul-clause-stepped g c = c.compute-in-Mul.ensures g.S.LinkStore.atom_id g.S.LinkStore.mem_id (g.S.LinkStore.heap c.args.store.now) c.requires.held
+returns-in-Mul-clause-stepped g c = c.compute_apart-in-Mul.ensures g.S.LinkStore.atom_id g.S.LinkStore.mem_id (g.S.LinkStore.heap c.args.store.now) c.requires.held
 
 pub returns-in-Div-clause-stepped : goal.returns-in-Div-clause-stepped
-returns-in-Div-clause-stepped g c = c.compute-in-Div.ensures g.S.LinkStore.atom_id g.S.LinkStore.mem_id (g.S.LinkStore.heap c.args.store.now) c.requires.held
+returns-in-Div-clause-stepped g c = c.compute_apart-in-Div.ensures g.S.LinkStore.atom_id g.S.LinkStore.mem_id (g.S.LinkStore.heap c.args.store.now) c.requires.held
 
 pub returns-in-Mod-clause-stepped : goal.returns-in-Mod-clause-stepped
-returns-in-Mod-clause-stepped g c = c.compute-in-Mod.ensures g.S.LinkStore.atom_id g.S.LinkStore.mem_id (g.S.LinkStore.heap c.args.store.now) c.requires.held
+returns-in-Mod-clause-stepped g c = c.compute_apart-in-Mod.ensures g.S.LinkStore.atom_id g.S.LinkStore.mem_id (g.S.LinkStore.heap c.args.store.now) c.requires.held
