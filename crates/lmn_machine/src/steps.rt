@@ -217,8 +217,8 @@ fn run_atom_test<S: LinkStore>(
     outcome_of(check_atoms(store, set, instr))
 }
 
-/// Runs a test of membranes. It is no part of its caller.
-#[inline(never)]
+/// Runs a test of membranes.
+#[inline(always)]
 fn run_membrane_test<S: LinkStore>(
     store: &S,
     set: &SetRegisters<S::Atom, S::Mem>,
