@@ -218,10 +218,11 @@ pub trait LinkStore {
         requires slot { slot ≤ arity_of (heap self.now) (atom_id a) }
         ensures { result ≡ mark_of (heap self.now) (atom_id a) slot };
 
-    /// Changes one mark of an atom.
+    /// Changes one mark of an atom. The mark of a slot other than 0 is below 2^56.
     fn set_mark(&mut self, a: Self::Atom, slot: u8, v: u64)
         requires atom { IsAtom (heap self.old) (atom_id a) }
         requires slot { slot ≤ arity_of (heap self.old) (atom_id a) }
+        requires small { slot ≢ 0 → v < 2 ^ 56 }
         ensures { heap self.new ≡ marked (heap self.old) (atom_id a) slot v };
 
     /// The mark of a membrane. A new membrane's is `AWAKE`.
