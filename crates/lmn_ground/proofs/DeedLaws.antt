@@ -112,7 +112,7 @@ root_can Take before start root count all t can to made = λ x k. at x k
     at : (x : ℕ) → In x (root.0 ∷ []) → IsInPlace to x
     at x (inl e) = subst (IsInPlace to) e (root_placed before start root count all t (can root.0 (root_seen before start root count all t)) to made)
     at x (inr k) = absurd k
-root_can (SetOwn v) before start root count all t can to made = tt
+root_can (SetOwn v) before start root count all t can to made = can
 
 -- and to an atom that is entered
 pub next_can : (d : Deed) (before0 : Heap) (root : ℕ × ℕ) (seen met : List ℕ) (now : Heap) (depth a i left : ℕ) → Wiping (all_done d met before0) now root seen met depth a i left → CanDo d seen before0
@@ -123,7 +123,7 @@ next_can Take before0 root seen met now depth a i left t can to b j made link ot
     at : (x : ℕ) → In x (b ∷ []) → IsInPlace to x
     at x (inl e) = subst (IsInPlace to) e (still_placed before0 root seen met now depth a i left t to b j made link other high can)
     at x (inr k) = absurd k
-next_can (SetOwn v) before0 root seen met now depth a i left t can to b j made link other high = tt
+next_can (SetOwn v) before0 root seen met now depth a i left t can to b j made link other high = can
 
 -- at the end all are met
 pub all_wiped : (d : Deed) (before0 : Heap) (root : ℕ × ℕ) (seen met : List ℕ) (now : Heap) (depth a i left : ℕ) (t : Wiping (all_done d met before0) now root seen met depth a i left)

@@ -1,5 +1,5 @@
 //! The walk that takes the marks back, and does something to each atom.
-ghost use Rattle.std.specs.Prelude.{◌≡◌, ◌<◌, ℕ, Bool, [], ◌∷◌, false, Some, IfSome};
+ghost use Rattle.std.specs.Prelude.{◌≡◌, ◌<◌, ◌^◌, ℕ, Bool, [], ◌∷◌, false, Some, IfSome};
 ghost use Rattle.lmn_store_heap.specs.Heap.{Heap, IsAtom, arity_of, link_of, marked};
 ghost use Rattle.lmn_store_heap.specs.Sound.{Sound};
 ghost use Rattle.lmn_store_heap.specs.Splice.{IsPort};
@@ -20,13 +20,14 @@ pub enum Deed {
     Leave,
     /// Takes it out of its list.
     Take,
-    /// Sets its own mark.
+    /// Sets its own mark, to a number below 2^56.
     SetOwn(u64),
 }
 
 /// Sets the own mark of an atom.
 fn set_own<S: LinkStore>(store: &mut S, a: S::Atom, v: u64)
-    requires { IsAtom (S.heap store.old) (S.atom_id a) }
+    requires atom { IsAtom (S.heap store.old) (S.atom_id a) }
+    requires small { v < 2 ^ 56 }
     ensures { S.heap store.new ≡ marked (S.heap store.old) (S.atom_id a) (arity_of (S.heap store.old) (S.atom_id a)) v }
 {
     let own = arity(store, a);

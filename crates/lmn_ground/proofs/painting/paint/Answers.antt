@@ -9,7 +9,7 @@ undo-requires-clause-root g c = (root_there _ _ _ _ _ c.spread-found.ensures.spr
 pub undo-requires-clause-spread : goal.undo-requires-clause-spread
 undo-requires-clause-spread g c =
     let t = c.spread-found.ensures.spread.0 in
-    (g.S.LinkStore.heap c.args.store.now, _, t, c.spread-found.ensures.spread.1, tt)
+    (g.S.LinkStore.heap c.args.store.now, _, t, c.spread-found.ensures.spread.1, c.requires.small)
 
 pub returns : goal.returns
 returns g c =

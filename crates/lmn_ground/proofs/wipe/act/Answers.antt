@@ -6,6 +6,9 @@ use Rattle.lmn_ground.proofs.wipe.act.Goals as goal
 pub take_atom-requires : goal.take_atom-requires
 take_atom-requires g c = can_as c.args.deed Take (g.S.LinkStore.atom_id c.args.a ∷ []) (g.S.LinkStore.heap c.args.store.now) c.in-Take.is c.requires.can _ (inl refl)
 
+pub set_own-requires-clause-small : goal.set_own-requires-clause-small
+set_own-requires-clause-small g c = can_as c.args.deed (SetOwn c.in-SetOwn.v) (g.S.LinkStore.atom_id c.args.a ∷ []) (g.S.LinkStore.heap c.args.store.now) c.in-SetOwn.is c.requires.can
+
 pub returns-in-Leave : goal.returns-in-Leave
 returns-in-Leave g c = done_as c.args.deed Leave (g.S.LinkStore.atom_id c.args.a) (g.S.LinkStore.heap c.args.store.now) _ c.in-Leave.is refl
 
