@@ -1,5 +1,5 @@
-//! Own marks of what is in registers and stands in a membrane.
-ghost use Rattle.std.specs.Prelude.{◌≡◌, ◌<◌, ◌↔◌, ℕ, List, None, Some, IsTrue};
+//! Own marks, below 2^56, of what is in registers and stands in a membrane.
+ghost use Rattle.std.specs.Prelude.{◌≡◌, ◌<◌, ◌↔◌, ◌^◌, ℕ, List, None, Some, IsTrue};
 ghost use Rattle.lmn_base.specs.Graphs.{Reached};
 ghost use Rattle.lmn_base.specs.Lists.{In};
 ghost use Rattle.lmn_store_heap.specs.Graphs.{atom_map};
@@ -15,7 +15,8 @@ use lmn_store_trait::LinkStore;
 
 /// Sets the own mark of an atom.
 pub fn set_own<S: LinkStore>(store: &mut S, a: S::Atom, mark: u64)
-    requires { IsAtom (S.heap store.old) (S.atom_id a) }
+    requires atom { IsAtom (S.heap store.old) (S.atom_id a) }
+    requires small { mark < 2 ^ 56 }
     ensures { S.heap store.new ≡ marked (S.heap store.old) (S.atom_id a) (arity_of (S.heap store.old) (S.atom_id a)) mark }
 {
     let _root = store.root();
@@ -36,6 +37,7 @@ pub fn has_home<S: LinkStore>(store: &S, a: S::Atom, m: S::Mem) -> bool
 fn mark_inside<S: LinkStore>(store: &mut S, a: S::Atom, m: S::Mem, mark: u64)
     requires atom { IsAtom (S.heap store.old) (S.atom_id a) }
     requires membrane { IsMem (S.heap store.old) (S.mem_id m) }
+    requires small { mark < 2 ^ 56 }
     ensures { (all : List ℕ) × ((b : ℕ) → In b all ↔ ((S.atom_id a ≡ b) × (home_of (S.heap store.old) b ≡ Some (S.mem_id m)))) × (S.heap store.new ≡ own_marked mark all (S.heap store.old)) }
 {
     if has_home(store, a, m) {
@@ -48,6 +50,7 @@ fn mark_atoms<S: LinkStore>(store: &mut S, atoms: &Stack<S::Atom>, m: S::Mem, ma
     requires marked { HasOwnMarks (S.heap store.old) }
     requires held { AreAtomHandles S.atom_id (S.heap store.old) atoms.now }
     requires membrane { IsMem (S.heap store.old) (S.mem_id m) }
+    requires small { mark < 2 ^ 56 }
     ensures { (all : List ℕ) × ((b : ℕ) → In b all ↔ IsOneInside S.atom_id (S.heap store.old) atoms.now (S.mem_id m) b) × (S.heap store.new ≡ own_marked mark all (S.heap store.old)) }
 {
     for i in 0..atoms.len() {
@@ -68,6 +71,7 @@ fn paint_inside<S: LinkStore>(
     requires port { part.1 < arity_of (S.heap store.old) (S.atom_id part.0) }
     requires whole { IsWhole (S.heap store.old) (S.atom_id part.0, part.1) None }
     requires membrane { IsMem (S.heap store.old) (S.mem_id m) }
+    requires small { mark < 2 ^ 56 }
     ensures { (all : List ℕ) × ((b : ℕ) → In b all ↔ ((home_of (S.heap store.old) (S.atom_id part.0) ≡ Some (S.mem_id m)) × Reached (atom_map (S.heap store.old)) (S.atom_id part.0, part.1) b)) × (S.heap store.new ≡ own_marked mark all (S.heap store.old)) }
 {
     if has_home(store, part.0, m) {
@@ -86,6 +90,7 @@ fn paint_parts<S: LinkStore>(
     requires marked { HasOwnMarks (S.heap store.old) }
     requires parts { AreWholeParts S.atom_id (S.heap store.old) parts.now }
     requires membrane { IsMem (S.heap store.old) (S.mem_id m) }
+    requires small { mark < 2 ^ 56 }
     ensures { (all : List ℕ) × ((b : ℕ) → In b all ↔ IsInPartInside S.atom_id (S.heap store.old) parts.now (S.mem_id m) b) × (S.heap store.new ≡ own_marked mark all (S.heap store.old)) }
 {
     for i in 0..parts.len() {
@@ -106,6 +111,7 @@ pub fn mark_taken<S: LinkStore>(
     requires held { AreAtomHandles S.atom_id (S.heap store.old) set.now.atoms }
     requires parts { AreWholeParts S.atom_id (S.heap store.old) set.now.parts }
     requires membrane { IsMem (S.heap store.old) (S.mem_id m) }
+    requires small { mark < 2 ^ 56 }
     ensures { (all : List ℕ) × ((b : ℕ) → In b all ↔ IsTakenInside S.atom_id (S.heap store.old) set.now (S.mem_id m) b) × (S.heap store.new ≡ own_marked mark all (S.heap store.old)) }
 {
     mark_atoms(store, &set.atoms, m, mark);
