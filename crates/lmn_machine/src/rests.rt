@@ -1,5 +1,5 @@
 //! What a membrane holds besides the registers: whether a link leaves it, and how many items it has.
-ghost use Rattle.std.specs.Prelude.{◌≡◌, ◌<◌, ◌+◌, ◌↔◌, ℕ, List, IsSome, IsTrue, length, map, sum};
+ghost use Rattle.std.specs.Prelude.{◌≡◌, ◌<◌, ◌+◌, ◌↔◌, ◌^◌, ℕ, List, IsSome, IsTrue, length, map, sum};
 ghost use Rattle.std.specs.List.{AllByRecursion};
 ghost use Rattle.lmn_base.specs.Lists.{In};
 ghost use Rattle.lmn_store_heap.specs.Heap.{Heap, IsMem, Unmarked, arity_of, link_of, rules_in};
@@ -29,6 +29,7 @@ fn paint_parts<S: LinkStore>(
     requires full { (a i : ℕ) → i < arity_of (S.heap store.old) a → IsSome (link_of (S.heap store.old) a i) }
     requires parts { AreRootPorts S.atom_id (S.heap store.old) set.now.parts }
     requires listed { AllByRecursion (λ k. k < length set.now.parts) listed.now }
+    requires small { mark < 2 ^ 56 }
     ensures { (all : List ℕ) × ((s : HeadRegisters) → Agrees S.atom_id S.mem_id set.now s → (a : ℕ) → In a all ↔ IsInSome (S.heap store.old) s listed.now a) × (S.heap store.new ≡ own_marked mark all (S.heap store.old)) }
 {
     for i in 0..listed.len() {

@@ -1,5 +1,5 @@
 //! Parts of any number of atoms.
-ghost use Rattle.std.specs.Prelude.{◌≡◌, ◌<◌, ◌↔◌, List, IsTrue, map};
+ghost use Rattle.std.specs.Prelude.{◌≡◌, ◌<◌, ◌↔◌, ◌^◌, List, IsTrue, map};
 ghost use Rattle.lmn_store_heap.specs.Heap.{IsAtom, IsMem, arity_of, Unmarked};
 ghost use Rattle.lmn_base.specs.Graphs.{SameGraph};
 ghost use Rattle.lmn_store_heap.specs.Graphs.{atom_map};
@@ -14,9 +14,10 @@ use lmn_machine_commit::set_own;
 use lmn_machine_registers::Stack;
 use lmn_store_trait::LinkStore;
 
-/// Sets the own marks of the atoms in registers.
+/// Sets the own marks of the atoms in registers, to a number below 2^56.
 pub fn mark_all<S: LinkStore>(store: &mut S, atoms: &Stack<S::Atom>, mark: u64)
     requires held { AreAtomHandles S.atom_id (S.heap store.old) atoms.now }
+    requires small { mark < 2 ^ 56 }
     ensures { S.heap store.new ≡ own_marked mark (map S.atom_id atoms.now) (S.heap store.old) }
 {
     for i in 0..atoms.len() {
