@@ -68,10 +68,10 @@ numbering_more s t u n m a next f r q b g l e = record {
     same name = ap (λ xs. links_on s b.done name ++ xs) (here name) ∙ sym (links_append s name b.done (a ∷ []))
 
 -- there is room for the numbers of one atom more
-pub numbering_room : (s t : Heap) (n a : ℕ) (f : Forest) → Numbering s t n (Some a) f → n + most_links < 2 ^ 64
+pub numbering_room : (s t : Heap) (n a : ℕ) (f : Forest) → Numbering s t n (Some a) f → n + most_links < 2 ^ 56
 numbering_room s t n a f b = room n (length (after a (printed_atoms s (flat f)))) b.few
   where
-    room : (n k : ℕ) → n + most_links * suc k ≤ most_links * 2 ^ 48 → n + most_links < 2 ^ 64
+    room : (n k : ℕ) → n + most_links * suc k ≤ most_links * 2 ^ 48 → n + most_links < 2 ^ 56
     room n k h = omega (arith, h)
 
 -- all atoms are done: the marks tell the numbers of the solid's links

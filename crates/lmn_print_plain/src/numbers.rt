@@ -1,4 +1,4 @@
-//! The numbers of links, in the marks of their ports: each mark is greater by one.
+//! The numbers of links, in the marks of their ports: each mark is greater by one. They are below 2^56.
 ghost use Rattle.std.specs.Prelude.{◌≡◌, ◌<◌, ◌≤◌, ◌+◌, ◌^◌, ℕ, [], ◌∷◌};
 ghost use Rattle.lmn_base.specs.Limits.{most_links};
 ghost use Rattle.lmn_base.specs.declared.solid.Solid.{Solid};
@@ -29,7 +29,7 @@ pub(crate) fn number_links<S: LinkStore>(store: &mut S)
 /// Gives the links of an atom that have none their numbers, where so many have one. Answers how many have one then.
 fn number_ports<S: LinkStore>(store: &mut S, atom: S::Atom, count: u64) -> u64
     requires atom { IsAtom (S.heap store.old) (S.atom_id atom) }
-    requires count { count + most_links < 2 ^ 64 }
+    requires count { count + most_links < 2 ^ 56 }
     ensures marks { Remarks (S.heap store.old) (S.heap store.new) }
     ensures numbers { GoOn (S.heap store.old) (S.heap store.new) count result (links_at_ports (S.heap store.old) (S.atom_id atom)) }
     ensures few { result ≤ count + most_links }
@@ -47,7 +47,7 @@ fn number_ports<S: LinkStore>(store: &mut S, atom: S::Atom, count: u64) -> u64
 pub fn number_port<S: LinkStore>(store: &mut S, atom: S::Atom, port: u8, count: u64) -> u64
     requires atom { IsAtom (S.heap store.old) (S.atom_id atom) }
     requires port { port < arity_of (S.heap store.old) (S.atom_id atom) }
-    requires count { count + 1 < 2 ^ 64 }
+    requires count { count + 1 < 2 ^ 56 }
     ensures marks { Remarks (S.heap store.old) (S.heap store.new) }
     ensures numbers { GoOn (S.heap store.old) (S.heap store.new) count result (λ name. name (S.atom_id atom) port ∷ []) }
     ensures few { result ≤ count + 1 }
