@@ -1,20 +1,27 @@
 -- The list that a walk leaves of its atoms, and what is done along it.
-use Rattle.std.proofs.Common.{◌≡◌, ◌≢◌, ℕ, ◌+◌, ◌<◌, ◌≤◌, Bool, true, false, List, [], ◌∷◌, ◌++◌, length, map, drop, Option, Some, IsSome, refl, sym, ap, subst, ◌∙◌, inl, inr, arith, length-append, if◌then◌else◌}
-use Rattle.std.specs.Prelude.{slice_get}
+use Rattle.std.proofs.Common.{◌≡◌, ◌≢◌, ℕ, ◌+◌, ◌<◌, ◌≤◌, Bool, true, false, List, [], ◌∷◌, ◌++◌, length, map, drop, Option, Some, None, IsSome, refl, sym, ap, subst, ◌∙◌, inl, inr, arith, length-append, if◌then◌else◌}
+use Rattle.std.specs.Prelude.{slice_get, slice_index_or}
+use Rattle.lmn_base.specs.Graphs.{Reached}
 use Rattle.lmn_base.specs.Lists.{In}
 use Rattle.std.proofs.lemmas.Bool.{cases_eq}
-use Rattle.std.specs.Option.{option_map}
-use Rattle.lmn_store_heap.specs.Heap.{Heap, HeapAtom, Distinct, IsAtom, IsInPlace, alter, arity_of, gone, home_of, taken, with_place}
+use Rattle.std.specs.Option.{option_and_then, option_map}
+use Rattle.lmn_store_heap.specs.Heap.{Heap, HeapAtom, Distinct, IsAtom, IsInPlace, alter, arity_of, gone, home_of, marks_of, partners_of, taken, with_place}
+use Rattle.lmn_store_heap.specs.Graphs.{atom_map}
+use Rattle.lmn_store_heap.specs.Sound.{Sound}
 use Rattle.lmn_store_heap.proofs.ListLemmas.{each_in}
 use Rattle.lmn_store_heap.proofs.Listing.{alter_away}
 use Rattle.lmn_ground_parts.specs.Copies.{AllAtoms}
-use Rattle.lmn_ground_parts.specs.Walks.{neighbour, is_in, net}
-use Rattle.lmn_ground_parts.proofs.WalkLaws.{once}
+use Rattle.lmn_ground_parts.specs.Walks.{HasPort, IsPartInDepth, Walk, ends, finds, is_in, is_port, kept, neighbour, net, passes, port_range}
+use Rattle.lmn_ground_parts.proofs.Common.{either_port, ports_in}
+use Rattle.lmn_ground_parts.proofs.WalkLaws.{in_last, kept_seen, once}
 use Rattle.lmn_ground.specs.Copies.{unmarked_all}
 use Rattle.lmn_ground.specs.Deeds.{CanDo, all_done, done}
 use Rattle.lmn_ground.specs.declared.wipe.Deed.{Deed}
 use Rattle.lmn_ground.specs.declared.wipe.Deed.TheVariants.{Leave, Take, SetOwn}
-use Rattle.lmn_ground.specs.Spread.{Spread}
+use Rattle.lmn_ground.specs.Marks.{first_marks}
+use Rattle.lmn_ground.specs.Spread.{CleanPart, Spread}
+use Rattle.lmn_ground.proofs.GroundLaws.{part_atoms}
+use Rattle.lmn_ground.proofs.SpreadLaws.{reached_port}
 use Rattle.lmn_ground.specs.Stands.{IsTrail}
 use Rattle.lmn_ground.proofs.CopyLaws.{map_snoc, drop_map, marked_there}
 use Rattle.lmn_ground.proofs.PaintLaws.{is_painted, with_port}
@@ -72,7 +79,7 @@ first_then (SetOwn v) a xs s = refl
 others_can : (d : Deed) (a : ℕ) (xs : List ℕ) (s : Heap) → Distinct (a ∷ xs) → CanDo d (a ∷ xs) s → CanDo d xs (done d a s)
 others_can Leave a xs s once can = tt
 others_can Take a xs s once can = λ x k. subst (λ (h : Option ℕ). IsSome h) (sym (home_away s a x (λ e. each_in (λ y. a ≢ y) xs x once.0 k (sym e)))) (can x (inr k))
-others_can (SetOwn v) a xs s once can = tt
+others_can (SetOwn v) a xs s once can = can
 
 -- atoms stay when the deed is done to one
 pub there_still : (d : Deed) (a : ℕ) (s to : Heap) (xs : List ℕ) → to ≡ done d a s → AllAtoms s xs → AllAtoms to xs
@@ -90,7 +97,7 @@ there_still d a s to xs e there = subst (λ h. AllAtoms h xs) (sym e) (by d)
 first_can : (d : Deed) (a : ℕ) (xs : List ℕ) (s : Heap) → CanDo d (a ∷ xs) s → CanDo d (a ∷ []) s
 first_can Leave a xs s can = tt
 first_can Take a xs s can = λ x k. elim k [ inl e ↦ can x (inl e) | inr n ↦ absurd n ]
-first_can (SetOwn v) a xs s can = tt
+first_can (SetOwn v) a xs s can = can
 
 module _ {A : Type 0} (id : A → ℕ) (d : Deed) (xs : List A) (k : ℕ) (a : A) (get : slice_get xs k ≡ Some a) where
   -- the deed can be done to the atom at a place
@@ -111,3 +118,47 @@ module _ {A : Type 0} (id : A → ℕ) (d : Deed) (xs : List A) (k : ℕ) (a : A
   pub done_here : (s to goal : Heap) → to ≡ done d (id a) s → all_done d (drop k (map id xs)) s ≡ goal → all_done d (drop (k + 1) (map id xs)) to ≡ goal
   done_here s to goal e h =
       ap (all_done d (drop (k + 1) (map id xs))) e ∙ sym (first_then d (id a) (drop (k + 1) (map id xs)) s) ∙ sym (ap (λ zs. all_done d zs s) (drop_map id xs k a get)) ∙ h
+
+-- The atoms of a part can be numbered: they are there, each once, have ports, and no marks yet.
+module _ (s : Heap) (root : ℕ × ℕ) (xs : List ℕ) (sound : Sound s) (port : root.1 < arity_of s root.0) (part : IsPartInDepth s root xs) where
+  reached_of : (x : ℕ) → In x xs → Reached (atom_map s) root x
+  reached_of x k = ((part_atoms s root xs part).1 x).0 k
+
+  pub part_there : AllAtoms s xs
+  part_there x k = with_port s x (reached_port s root sound port x (reached_of x k))
+
+  pub part_once : Distinct xs
+  part_once = (part_atoms s root xs part).0
+
+  pub part_clean : CleanPart s root → (x : ℕ) → In x xs → first_marks s x ≡ 0
+  part_clean clean x k = clean x (reached_of x k)
+
+  pub part_marks : (x : ℕ) → In x xs → 0 < length (marks_of (s.atoms x))
+  part_marks x k = let m = sound.shaped.marks x (part_there x k) in omega (arith, m)
+
+-- A part is walked alike in a heap that has its atoms.
+module _ (s t : Heap) (root : ℕ × ℕ) (xs : List ℕ) (same : (a : ℕ) → In a xs → t.atoms a ≡ s.atoms a) where
+  same_next : (p : ℕ × ℕ) → In p.0 xs → neighbour (net t) root (λ _. true) p ≡ neighbour (net s) root (λ _. true) p
+  same_next p k = ap (λ (o : Option HeapAtom). if is_port p root then None else option_and_then (kept (λ _. true)) (slice_index_or (partners_of o) p.1 None)) (same p.0 k)
+
+  walk_kept : {seen : List ℕ} {ps : List (ℕ × ℕ)} → Walk (net s).arity (neighbour (net s) root (λ _. true)) seen ps xs → ((p : ℕ × ℕ) → HasPort p ps → In p.0 xs)
+      → Walk (net t).arity (neighbour (net t) root (λ _. true)) seen ps xs
+  walk_kept ends inside = ends
+  walk_kept (passes {p = p} h w) inside =
+      passes (λ b e. h b (sym (same_next p (inside p (inl refl))) ∙ e)) (walk_kept w (λ q k. inside q (inr k)))
+  walk_kept (finds {seen = seen} {ps = ps} {p = p} {b = b} e n w) inside =
+      let found : In b xs = kept_seen _ _ w b (in_last b seen) in
+      let arity : arity_of t b ≡ arity_of s b = ap (λ (o : Option HeapAtom). length (partners_of o)) (same b found) in
+      finds (same_next p (inside p (inl refl)) ∙ e) n
+      (subst (λ (k : ℕ). Walk (net t).arity (neighbour (net t) root (λ _. true)) (seen ++ b ∷ []) (port_range b 0 k ++ ps) xs) (sym arity)
+      (walk_kept w (λ q k. elim (either_port b 0 (arity_of s b) ps q k) [
+        | inl i ↦ ports_in xs b 0 (arity_of s b) found q i
+        | inr i ↦ inside q (inr i)
+      ])))
+
+  pub part_kept : IsPartInDepth s root xs → IsPartInDepth t root xs
+  part_kept part =
+      let first : In root.0 xs = kept_seen _ _ part root.0 (inl refl) in
+      let arity : arity_of t root.0 ≡ arity_of s root.0 = ap (λ (o : Option HeapAtom). length (partners_of o)) (same root.0 first) in
+      subst (λ (k : ℕ). Walk (net t).arity (neighbour (net t) root (λ _. true)) (root.0 ∷ []) (port_range root.0 0 k) xs) (sym arity)
+      (walk_kept part (λ p k. ports_in xs root.0 0 (arity_of s root.0) first p k))

@@ -3,18 +3,17 @@ ghost use Rattle.std.specs.Prelude.{◌≡◌, ◌≢◌, ◌<◌, ◌≤◌, �
 ghost use Rattle.std.specs.Option.{option_map};
 ghost use Rattle.lmn_base.specs.Lists.{In};
 ghost use Rattle.lmn_store_heap.specs.Conditions.{Alone};
-ghost use Rattle.lmn_store_heap.specs.Heap.{IsMem, IsMemInPlace, Distinct, PortsUnmarked, after, atoms_in, from, gone, marks_of, mem_place_of, mems_in, own_mark, parent_of, placed_mem, rules_copied, rules_in, spare_of, taken_all};
+ghost use Rattle.lmn_store_heap.specs.Heap.{IsMem, IsMemInPlace, Distinct, PortsUnmarked, after, atoms_in, from, gone, mem_place_of, mems_in, own_mark, parent_of, placed_mem, rules_copied, rules_in, spare_of, taken_all};
 ghost use Rattle.lmn_ground_parts.specs.Copies.{AllAtoms, AreNew, made_like};
 ghost use Rattle.lmn_ground_parts.specs.Rests.{AreNewMembranes, AreRoomsFor, CopyWaits, IsContent, NoneLeaves, RestCopied, RestRemains, atoms_placed, joined_copies, made_roomy, rest_placed, rest_taken};
-ghost use Rattle.lmn_ground.specs.Copies.{Made, NumbersAtoms};
+ghost use Rattle.lmn_ground.specs.Copies.{Made};
 ghost use Rattle.lmn_ground.specs.Marks.{first_marks};
 ghost use Rattle.lmn_ground.specs.Rests.{AreMembranes, AreTwins, IsLeft};
 ghost use Rattle.lmn_ground.specs.Spread.{Numbered};
 
 use crate::copying::{join_copies, make_copies};
 use crate::found::Found;
-use crate::gather::clear;
-use crate::marks::{FOUND, PORTS};
+use crate::gather::{clear, number};
 use crate::rest::{first_membrane, first_rest, next_membrane, next_rest};
 use crate::seek::arity;
 use lmn_base::NoMemory;
@@ -82,21 +81,6 @@ fn make_membranes<S: LinkStore>(
         store.reserve_rules(alloc, copy, rules)?;
     }
     Ok(())
-}
-
-/// Marks atoms with their numbers.
-fn number<S: LinkStore>(store: &mut S, atoms: &Found<S::Atom>)
-    requires there { AllAtoms (S.heap store.old) (map S.atom_id atoms.now) }
-    requires once { Distinct (map S.atom_id atoms.now) }
-    requires clean { (x : ℕ) → In x (map S.atom_id atoms.now) → first_marks (S.heap store.old) x ≡ 0 }
-    requires ports { (x : ℕ) → In x (map S.atom_id atoms.now) → 0 < length (marks_of ((S.heap store.old).atoms x)) }
-    ensures marked { NumbersAtoms (S.heap store.old) (S.heap store.new) (map S.atom_id atoms.now) }
-    ensures numbers { Numbered (first_marks (S.heap store.new)) 2 (map S.atom_id atoms.now) }
-{
-    let _root = store.root();
-    for i in 0..atoms.len() {
-        store.set_mark(*atoms.at(i), 0, FOUND + PORTS * i as u64);
-    }
 }
 
 /// Makes copies of numbered atoms, which no link leaves, and joins them as these.

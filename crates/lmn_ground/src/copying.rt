@@ -1,18 +1,18 @@
 //! A part is copied.
-ghost use Rattle.std.specs.Prelude.{◌≡◌, ◌<◌, ℕ, List, [], None, IfOk, OnErr, OnOk, length, map};
+ghost use Rattle.std.specs.Prelude.{◌≡◌, ◌<◌, ℕ, List, [], None, IfOk, IsTrue, OnErr, OnOk, length, map};
 ghost use Rattle.lmn_store_heap.specs.Conditions.{Alone};
 ghost use Rattle.lmn_store_heap.specs.Heap.{IsAtom, arity_of, PortsUnmarked};
 ghost use Rattle.lmn_store_heap.specs.Splice.{IsPort};
 ghost use Rattle.lmn_ground.specs.Marks.{first_marks};
-ghost use Rattle.lmn_ground.specs.Spread.{AreAtoms, CleanPart, IsWhole, Numbered};
+ghost use Rattle.lmn_ground.specs.Spread.{CleanPart, IsWhole, Numbered};
 ghost use Rattle.lmn_ground.specs.Copies.{Copying, Made, Remains, unmarked_all};
 ghost use Rattle.lmn_ground_parts.specs.Copies.{AllAtoms, Copied, LeadsOut, all_joined, joined_like, ports_of, answer};
-ghost use Rattle.lmn_ground_parts.specs.Walks.{port_range};
+ghost use Rattle.lmn_ground_parts.specs.Walks.{IsPartInDepth, port_range};
 ghost use Rattle.lmn_base.specs.Lists.{In};
 
 use crate::equality::is_same_port;
 use crate::found::Found;
-use crate::gather::{clear, gather};
+use crate::gather::{clear, list_part};
 use crate::marks::{FIRST_NUMBER, PORTS};
 use crate::seek::arity;
 use lmn_base::NoMemory;
@@ -129,19 +129,20 @@ fn copy_marked<S: LinkStore>(
     store: &mut S,
     root: (S::Atom, u8),
     atoms: &mut Found<S::Atom>,
+    listed: bool,
 ) -> Result<S::Atom, NoMemory>
     requires root { IsPort (S.heap store.old) (S.atom_id root.0) root.1 }
     requires clean { CleanPart (S.heap store.old) (S.atom_id root.0, root.1) }
     requires ground { IsWhole (S.heap store.old) (S.atom_id root.0, root.1) None }
     requires outside { LeadsOut (S.heap store.old) (S.atom_id root.0, root.1) }
-    requires empty { atoms.old ≡ [] }
+    requires listed { IsTrue listed → IsPartInDepth (S.heap store.old) (S.atom_id root.0, root.1) (map S.atom_id atoms.old) }
     ensures there { AllAtoms (S.heap store.new) (map S.atom_id atoms.new) }
     ensures ok { IfOk result (λ c. Copied (S.heap store.old) (unmarked_all (S.heap store.new) (map S.atom_id atoms.new)) (S.atom_id root.0, root.1) (S.atom_id c, root.1)) }
     ensures err { OnErr result (Remains (S.heap store.old) (unmarked_all (S.heap store.new) (map S.atom_id atoms.new))) }
-    ensures size { OnOk result ((xs : List ℕ) → AreAtoms (S.heap store.old) (S.atom_id root.0, root.1) xs → length atoms.new ≡ length xs) }
+    ensures part { OnOk result (IsPartInDepth (S.heap store.old) (S.atom_id root.0, root.1) (map S.atom_id atoms.new)) }
 {
     let _arity = arity(store, root.0);
-    gather(store, root, atoms)?;
+    list_part(store, root, atoms, listed)?;
     let mut copies = Found::new(alloc);
     let _sound = store.root();
     make_copies(alloc, store, atoms, &mut copies)?;
@@ -159,22 +160,25 @@ pub struct CountedCopy<A> {
     pub atoms: u64,
 }
 
-/// Copies a part of one atom, which has one port.
+/// Copies a part of one atom, which has one port, and lists it.
 fn copy_lone<S: LinkStore>(
     alloc: Global,
     store: &mut S,
     root: (S::Atom, u8),
+    trail: &mut Found<S::Atom>,
 ) -> Result<CountedCopy<S::Atom>, NoMemory>
     requires root { IsPort (S.heap store.old) (S.atom_id root.0) root.1 }
     requires ground { IsWhole (S.heap store.old) (S.atom_id root.0, root.1) None }
     requires outside { LeadsOut (S.heap store.old) (S.atom_id root.0, root.1) }
     requires lone { arity_of (S.heap store.old) (S.atom_id root.0) ≡ 1 }
-    ensures ok { IfOk result (λ c. Copied (S.heap store.old) (S.heap store.new) (S.atom_id root.0, root.1) (S.atom_id c.root.0, c.root.1)) }
+    ensures ok { IfOk result (λ c. Copied (S.heap store.old) (S.heap store.new) (S.atom_id root.0, root.1) (S.atom_id c.root.0, c.root.1)
+        × IsPartInDepth (S.heap store.old) (S.atom_id root.0, root.1) (map S.atom_id trail.new) × (c.atoms ≡ length trail.new)) }
     ensures err { OnErr result (Remains (S.heap store.old) (S.heap store.new)) }
     ensures alone { Alone (S.heap store.old) → Alone (S.heap store.new) }
-    ensures size { IfOk result (λ c. (xs : List ℕ) → AreAtoms (S.heap store.old) (S.atom_id root.0, root.1) xs → c.atoms ≡ length xs) }
 {
     let _sound = store.root();
+    trail.clear();
+    trail.push(root.0)?;
     let functor = store.functor(root.0);
     let copy = store.make_atom(alloc, functor)?;
     Ok(CountedCopy {
@@ -183,40 +187,42 @@ fn copy_lone<S: LinkStore>(
     })
 }
 
-/// For how many atoms of a part room is asked at first.
-const FEW: usize = 64;
-
-/// Copies a part, as `copy` does, and tells how many atoms it has.
+/// Copies a part, as `copy` does, and tells how many atoms it has. `trail` has the atoms of the part then, in the order in which
+/// they are found. With `listed` it has them before: the part is not walked.
 pub fn copy_counted<S: LinkStore>(
     alloc: Global,
     store: &mut S,
     root: (S::Atom, u8),
+    trail: &mut Found<S::Atom>,
+    listed: bool,
 ) -> Result<CountedCopy<S::Atom>, NoMemory>
     requires root { IsPort (S.heap store.old) (S.atom_id root.0) root.1 }
     requires clean { PortsUnmarked (S.heap store.old) }
     requires ground { IsWhole (S.heap store.old) (S.atom_id root.0, root.1) None }
     requires outside { LeadsOut (S.heap store.old) (S.atom_id root.0, root.1) }
-    ensures ok { IfOk result (λ c. Copied (S.heap store.old) (S.heap store.new) (S.atom_id root.0, root.1) (S.atom_id c.root.0, c.root.1)) }
+    requires listed { IsTrue listed → IsPartInDepth (S.heap store.old) (S.atom_id root.0, root.1) (map S.atom_id trail.old) }
+    ensures ok { IfOk result (λ c. Copied (S.heap store.old) (S.heap store.new) (S.atom_id root.0, root.1) (S.atom_id c.root.0, c.root.1)
+        × IsPartInDepth (S.heap store.old) (S.atom_id root.0, root.1) (map S.atom_id trail.new) × (c.atoms ≡ length trail.new)) }
     ensures err { OnErr result (Remains (S.heap store.old) (S.heap store.new)) }
     ensures alone { Alone (S.heap store.old) → Alone (S.heap store.new) }
-    ensures size { IfOk result (λ c. (xs : List ℕ) → AreAtoms (S.heap store.old) (S.atom_id root.0, root.1) xs → c.atoms ≡ length xs) }
 {
     let ports = arity(store, root.0);
     if ports == 1 {
-        return copy_lone(alloc, store, root);
+        return copy_lone(alloc, store, root, trail);
     }
-    let mut atoms = Found::new(alloc);
-    atoms.reserve(FEW);
-    let copied = copy_marked(alloc, store, root, &mut atoms);
-    clear(store, &atoms);
+    let copied = copy_marked(alloc, store, root, trail, listed);
+    clear(store, trail);
     match copied {
         Ok(copy) => Ok(CountedCopy {
             root: (copy, root.1),
-            atoms: atoms.len() as u64,
+            atoms: trail.len() as u64,
         }),
         Err(NoMemory) => Err(NoMemory),
     }
 }
+
+/// For how many atoms of a part room is asked at first.
+const FEW: usize = 64;
 
 /// Copies a part whose root has no partner in it. The copy's atoms are detached, in the order in which the part's are
 /// found, and its root has no partner. At want of memory some detached atoms may have been made, which `discard` gives back.
@@ -236,7 +242,9 @@ pub fn copy<S: LinkStore>(
     ensures err { OnErr result (Remains (S.heap store.old) (S.heap store.new)) }
     ensures alone { Alone (S.heap store.old) → Alone (S.heap store.new) }
 {
-    match copy_counted(alloc, store, root) {
+    let mut trail = Found::new(alloc);
+    trail.reserve(FEW);
+    match copy_counted(alloc, store, root, &mut trail, false) {
         Ok(copied) => Ok(copied.root),
         Err(NoMemory) => Err(NoMemory),
     }

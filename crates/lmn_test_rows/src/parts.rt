@@ -9,7 +9,7 @@ ghost use Rattle.lmn_store_slab.specs.Kept.{heap_of};
 use crate::making::Step::{Atom, Join, Membrane};
 use crate::making::{Step, add_atom, add_membrane, join, made, new_store};
 use lmn_base::{Functor, Label, Names};
-use lmn_ground::{copy, equal, is_ground, size_of, take_part};
+use lmn_ground::{Found, copy, equal, is_ground, size_of, take_part};
 use lmn_store_slab::SlabStore;
 use lmn_store_trait::LinkStore;
 use std::alloc::AllocGlobal;
@@ -56,17 +56,28 @@ fn match_atom(rt: &impl Abort, store: &mut SlabStore, a: usize)
     store.set_mark(a, own, 1);
 }
 
-fn grounds(rt: &impl Abort, store: &mut SlabStore, root: (usize, u8), m: usize) -> bool
+/// Room for the walks: for more atoms than the small parts have, and for fewer than the lists.
+fn room(rt: &(impl Abort + AllocGlobal)) -> Found<usize> {
+    Found::with_room(rt.alloc(), 100).expect(rt, "memory")
+}
+
+fn grounds(
+    rt: &(impl Abort + AllocGlobal),
+    store: &mut SlabStore,
+    root: (usize, u8),
+    m: usize,
+) -> bool
     requires { PortsUnmarked (heap_of store.old) }
     ensures { PortsUnmarked (heap_of store.new) }
 {
     assert!(rt; store.has_port(root.0, root.1));
     assert!(rt; store.has_mem(m));
-    is_ground(store, root, m)
+    let mut trail = room(rt);
+    is_ground(store, root, m, &mut trail)
 }
 
 /// A part that is ground in a membrane.
-fn part(rt: &impl Abort, store: &mut SlabStore, root: (usize, u8), m: usize)
+fn part(rt: &(impl Abort + AllocGlobal), store: &mut SlabStore, root: (usize, u8), m: usize)
     requires { PortsUnmarked (heap_of store.old) }
     ensures same { heap_of store.new ≡ heap_of store.old }
     ensures clean { PortsUnmarked (heap_of store.new) }
@@ -78,21 +89,23 @@ fn part(rt: &impl Abort, store: &mut SlabStore, root: (usize, u8), m: usize)
     let _root = store.root();
     assert!(rt; store.has_port(root.0, root.1));
     assert!(rt; store.has_mem(m));
-    let ground = is_ground(store, root, m);
+    let mut trail = room(rt);
+    let ground = is_ground(store, root, m, &mut trail);
     assert!(rt; ground);
 }
 
-fn size(rt: &impl Abort, store: &mut SlabStore, root: (usize, u8), m: usize) -> u64
+fn size(rt: &(impl Abort + AllocGlobal), store: &mut SlabStore, root: (usize, u8), m: usize) -> u64
     requires { PortsUnmarked (heap_of store.old) }
     ensures { PortsUnmarked (heap_of store.new) }
 {
     part(rt, store, root, m);
-    size_of(store, root)
+    let mut trail = room(rt);
+    size_of(store, root, &mut trail)
 }
 
 /// Whether parts in two membranes are equal.
 fn equals(
-    rt: &impl Abort,
+    rt: &(impl Abort + AllocGlobal),
     store: &mut SlabStore,
     x: (usize, u8),
     m: usize,
@@ -105,7 +118,8 @@ fn equals(
     assert!(rt; m != n);
     part(rt, store, x, m);
     part(rt, store, y, n);
-    equal(store, x, y)
+    let mut trail = room(rt);
+    equal(store, x, y, &mut trail)
 }
 
 /// The copy of a part whose root has no partner, and the root itself where it has one.
@@ -125,12 +139,13 @@ fn copied(
     }
 }
 
-fn take(rt: &impl Abort, store: &mut SlabStore, root: (usize, u8), m: usize)
+fn take(rt: &(impl Abort + AllocGlobal), store: &mut SlabStore, root: (usize, u8), m: usize)
     requires { PortsUnmarked (heap_of store.old) }
     ensures { PortsUnmarked (heap_of store.new) }
 {
     part(rt, store, root, m);
-    take_part(store, root);
+    let mut trail = room(rt);
+    take_part(store, root, &mut trail);
 }
 
 fn count(rt: &impl Abort, store: &SlabStore, m: usize) -> u64 {

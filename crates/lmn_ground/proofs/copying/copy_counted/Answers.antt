@@ -1,6 +1,5 @@
-use Rattle.std.proofs.Common.{subst, sym, ◌∙◌}
+use Rattle.std.proofs.Common.{subst, sym}
 use Rattle.lmn_ground_parts.specs.Copies.{Copied}
-use Rattle.lmn_ground.specs.Copies.{Remains}
 use Rattle.lmn_ground.proofs.SpreadLaws.{clean_part}
 use Rattle.lmn_ground.proofs.CopiedLaws.{alone_after}
 use Rattle.lmn_ground.proofs.copying.copy_counted.Goals as goal
@@ -8,21 +7,12 @@ use Rattle.lmn_ground.proofs.copying.copy_counted.Goals as goal
 pub copy_marked-copied-requires-clause-clean : goal.copy_marked-copied-requires-clause-clean
 copy_marked-copied-requires-clause-clean g c = clean_part _ _ c.arity-ports.ensures.sound c.requires.root.1 c.requires.clean
 
-pub returns-clause-alone : goal.returns-clause-alone
-returns-clause-alone g c = alone_after (g.S.LinkStore.heap c.args.store.now) _ (g.S.LinkStore.heap c.clear.new.store) c.copy_marked-copied.result (g.S.LinkStore.atom_id c.args.root.0, c.args.root.1) (λ a. (g.S.LinkStore.atom_id a, c.args.root.1)) c.copy_marked-copied.ensures.ok c.copy_marked-copied.ensures.err c.clear.ensures
-
 pub returns-in-Ok-clause-alone : goal.returns-in-Ok-clause-alone
 returns-in-Ok-clause-alone g c = alone_after (g.S.LinkStore.heap c.args.store.now) _ (g.S.LinkStore.heap c.clear.new.store) c.copy_marked-copied.result (g.S.LinkStore.atom_id c.args.root.0, c.args.root.1) (λ a. (g.S.LinkStore.atom_id a, c.args.root.1)) c.copy_marked-copied.ensures.ok c.copy_marked-copied.ensures.err c.clear.ensures
 
-pub returns-then-ports-eq1-clause-size : goal.returns-then-ports-eq1-clause-size
-returns-then-ports-eq1-clause-size g c = c.copy_lone.ensures.size
-
 pub returns-in-Ok-clause-ok : goal.returns-in-Ok-clause-ok
-returns-in-Ok-clause-ok g c =
-    subst (λ h. Copied (g.S.LinkStore.heap c.args.store.now) h (g.S.LinkStore.atom_id c.args.root.0, c.args.root.1) (g.S.LinkStore.atom_id c.in-Ok.copy, c.args.root.1)) (sym c.clear.ensures) c.in-Ok.ensures.ok
-
-pub returns-clause-err : goal.returns-clause-err
-returns-clause-err g c = subst (λ h. Remains (g.S.LinkStore.heap c.args.store.now) h) (sym c.clear.ensures) c.in-Err.ensures.err
-
-pub returns-in-Ok-clause-size : goal.returns-in-Ok-clause-size
-returns-in-Ok-clause-size g c = λ xs a. c.len.ensures ∙ c.in-Ok.ensures.size xs a
+returns-in-Ok-clause-ok g c = (
+  subst (λ h. Copied (g.S.LinkStore.heap c.args.store.now) h (g.S.LinkStore.atom_id c.args.root.0, c.args.root.1) (g.S.LinkStore.atom_id c.in-Ok.copy, c.args.root.1)) (sym c.clear.ensures) c.in-Ok.ensures.ok,
+  c.in-Ok.ensures.part,
+  c.len.ensures,
+)

@@ -6,7 +6,7 @@ use Rattle.lmn_ground.specs.Spread.{Numbered}
 use Rattle.lmn_store_heap.specs.Heap.{IsAtom}
 use Rattle.lmn_ground.proofs.CopyLaws.{length_map, marked_there, member}
 use Rattle.lmn_ground.proofs.GatherRestLaws.{Numbering, few_atoms, not_before, numbering_next, numbering_none, take_long, take_next, take_past}
-use Rattle.lmn_ground.proofs.cells.number.Goals as goal
+use Rattle.lmn_ground.proofs.gather.number.Goals as goal
 
 pub loop-i-init : goal.loop-i-init
 loop-i-init g c = record { numbering = numbering_none (g.S.LinkStore.heap c.args.store.now); there = c.requires.there }

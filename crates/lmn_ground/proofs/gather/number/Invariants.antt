@@ -1,7 +1,7 @@
 use Rattle.std.proofs.Common.{map, take}
 use Rattle.lmn_ground_parts.specs.Copies.{AllAtoms}
 use Rattle.lmn_ground.proofs.GatherRestLaws.{Numbering}
-use Rattle.lmn_ground.proofs.cells.number.Given as goal
+use Rattle.lmn_ground.proofs.gather.number.Given as goal
 
 abbrev pub invariant-loop-i : goal.invariant-loop-i
 invariant-loop-i g l = record {
