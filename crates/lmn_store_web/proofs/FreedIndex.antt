@@ -78,4 +78,4 @@ module _ (p : Posts) (t : List (Option RuleList)) (w : ℕ → Option WebCell) (
 
   -- the index holds the nest of what is left
   pub index_freed : (holds : Nest → Type 0) (ms : List ℕ) → IsIndexed holds ms (key_of w) (heap_by p t w) → IsIndexed holds ms (key_of v) (heap_by p g v)
-  index_freed holds ms x = index_fewer holds ms (key_of w) (heap_by p t w) x (key_of v) (heap_by p g v) was left (λ m i. key_left m (mem_there p g v m i).0) members used
+  index_freed holds ms x = index_fewer holds ms (key_of w) (heap_by p t w) x (key_of v) (heap_by p g v) refl was left (λ m i. key_left m (mem_there p g v m i).0) members used

@@ -6,7 +6,7 @@ use Rattle.std.specs.Prelude.{nat_lt, slice_get, slice_set, unwrap_or}
 use Rattle.lmn_base.specs.Lists.{In}
 use Rattle.lmn_base.proofs.Lists.{get_below, get_front, get_end, get_set, get_set_away}
 use Rattle.lmn_base.proofs.Numbers.{at_most_by_test}
-use Rattle.lmn_store_heap.specs.Heap.{Heap, HeapMem, top, within, waiting, IsMem, mems_in, mems_by, mem_mark_of, mem_mark_by, mem_place_of, mem_marked, new_mem, mem_with_place, made_mem, parent_of, placed_mem, taken_mem, moved_all}
+use Rattle.lmn_store_heap.specs.Heap.{Heap, HeapMem, top, within, waiting, IsMem, mems_in, mems_by, mem_place_of, mem_marked, new_mem, mem_with_place, made_mem, parent_of, placed_mem, taken_mem, moved_all}
 use Rattle.lmn_store_heap.specs.Sound.{Listed}
 use Rattle.lmn_store_heap.specs.Conditions.{IsOutside}
 use Rattle.lmn_store_heap.proofs.Heights.{mem_of_place}
@@ -16,7 +16,7 @@ use Rattle.lmn_web.specs.Webs.{WebCell, web_label}
 use Rattle.lmn_store_web.specs.Indexes.{IsNestOf, IsIndexed, held, key_of}
 use Rattle.lmn_store_web.specs.WebHeaps.{alone}
 use Rattle.lmn_store_web.proofs.MemLists.{seen_by, mark_there, out_marks, in_marks, move_marks}
-use Rattle.lmn_store_web.proofs.NestLemmas.{seen_there, awake_away, nest_same, nest_marked, nest_placed, nest_taken, nest_moved, nest_add, nest_put, nest_take, nest_move, nest_made, nest_fewer, nest_top}
+use Rattle.lmn_store_web.proofs.NestLemmas.{seen_there, awake_away, nest_same, nest_marked, nest_root_marked, nest_placed, nest_taken, nest_moved, nest_add, nest_put, nest_take, nest_move, nest_made, nest_fewer, nest_top}
 
 -- A list with a number at a key
 
@@ -65,18 +65,18 @@ module _ (holds : Nest → Type 0) (ms : List ℕ) (key : ℕ → ℕ) (h : Heap
   below m i = let g = get_below ms (key m) m (x.cells m i) in let f = x.few in omega (arith, g, f)
 
   -- where the membranes are the same
-  pub index_same : (new : ℕ → ℕ) (t : Heap) → ((m : ℕ) → seen_by (t.mems m) ≡ seen_by (h.mems m)) → ((m : ℕ) → IsMem h m → new m ≡ key m) → ((m y : ℕ) → In y (mems_in h m) → new y ≡ key y) → IsIndexed holds ms new t
-  index_same new t same names members = record {
+  pub index_same : (new : ℕ → ℕ) (t : Heap) → t.root ≡ h.root → ((m : ℕ) → seen_by (t.mems m) ≡ seen_by (h.mems m)) → ((m : ℕ) → IsMem h m → new m ≡ key m) → ((m y : ℕ) → In y (mems_in h m) → new y ≡ key y) → IsIndexed holds ms new t
+  index_same new t root same names members = record {
     nest = x.nest;
     nested = x.nested;
-    agrees = nest_same key new h t x.nest same names members x.agrees;
+    agrees = nest_same key new h t x.nest root same names members x.agrees;
     cells = λ m i. let j = seen_there (t.mems m) (h.mems m) (same m) i in ap (λ k. slice_get ms k) (names m j) ∙ x.cells m j;
     few = x.few;
   }
 
   -- and all keys are
-  pub index_kept : (new : ℕ → ℕ) (t : Heap) → ((m : ℕ) → new m ≡ key m) → ((m : ℕ) → seen_by (t.mems m) ≡ seen_by (h.mems m)) → IsIndexed holds ms new t
-  index_kept new t names same = index_same new t same (λ m i. names m) (λ m y i. names y)
+  pub index_kept : (new : ℕ → ℕ) (t : Heap) → t.root ≡ h.root → ((m : ℕ) → new m ≡ key m) → ((m : ℕ) → seen_by (t.mems m) ≡ seen_by (h.mems m)) → IsIndexed holds ms new t
+  index_kept new t root names same = index_same new t root same (λ m i. names m) (λ m y i. names y)
 
   -- `set_mem_mark`
   pub index_marked : (also : Nest → Type 0) (m v k : ℕ) → IsMem h m → key m ≡ k → also (with_awake k (v == 0) x.nest) → IsIndexed also ms key (mem_marked h m v)
@@ -87,6 +87,16 @@ module _ (holds : Nest → Type 0) (ms : List ℕ) (key : ℕ → ℕ) (h : Heap
     cells = λ y j. x.cells y (sym (mark_there h m v y) ∙ j);
     few = x.few;
   }
+
+  -- and of the root, of which the index isn't told
+  pub index_root_marked : (m v : ℕ) → m ≡ h.root → IsIndexed holds ms key (mem_marked h m v)
+  index_root_marked m v e = subst (λ z. IsIndexed holds ms key (mem_marked h z v)) (sym e) (record {
+    nest = x.nest;
+    nested = x.nested;
+    agrees = nest_root_marked key h x.nest x.agrees own v;
+    cells = λ y j. x.cells y (sym (mark_there h h.root v y) ∙ j);
+    few = x.few;
+  })
 
   module _ (listed : Listed h) where
     -- the key of a membrane that stands in none stands in none
@@ -120,7 +130,7 @@ module _ (holds : Nest → Type 0) (ms : List ℕ) (key : ℕ → ℕ) (h : Heap
       nested = now;
       agrees = record {
         inside = x.agrees.inside;
-        awake = λ m i. awake_away k true x.nest (key m) (free m i) ∙ x.agrees.awake m i;
+        awake = λ m i d. awake_away k true x.nest (key m) (free m i) ∙ x.agrees.awake m i d;
         others = x.agrees.others;
       };
       cells = x.cells;
@@ -174,24 +184,24 @@ module _ (holds : Nest → Type 0) (ms : List ℕ) (key : ℕ → ℕ) (h : Heap
   }
 
   -- `finish` and `discard`
-  pub index_fewer : (new : ℕ → ℕ) (t : Heap) → ((m : ℕ) → IsMem t m → t.mems m ≡ h.mems m) → ((m : ℕ) → IsMem h m → IsMem t m ⊎ (mems_in h m ≡ [])) → ((m : ℕ) → IsMem t m → new m ≡ key m) → ((m y : ℕ) → IsMem t m → In y (mems_in t m) → new y ≡ key y)
+  pub index_fewer : (new : ℕ → ℕ) (t : Heap) → t.root ≡ h.root → ((m : ℕ) → IsMem t m → t.mems m ≡ h.mems m) → ((m : ℕ) → IsMem h m → IsMem t m ⊎ (mems_in h m ≡ [])) → ((m : ℕ) → IsMem t m → new m ≡ key m) → ((m y : ℕ) → IsMem t m → In y (mems_in t m) → new y ≡ key y)
       → ((k : ℕ) → ((m : ℕ) → IsMem h m → key m ≢ k) ⊎ ((m : ℕ) × IsMem h m × (key m ≡ k))) → IsIndexed holds ms new t
-  index_fewer new t same left names members decide = record {
+  index_fewer new t root same left names members decide = record {
     nest = x.nest;
     nested = x.nested;
-    agrees = nest_fewer key h x.nest x.agrees own new t same left names members decide;
+    agrees = nest_fewer key h x.nest x.agrees own new t root same left names members decide;
     cells = λ m i. ap (λ k. slice_get ms k) (names m i) ∙ x.cells m (subst (λ (o : Option HeapMem). IsSome o) (same m i) i);
     few = x.few;
   }
 
--- `new`: the root alone
-pub index_alone : (also : Nest → Type 0) (key : ℕ → ℕ) (r : ℕ) → key r ≡ 0 → also (with_key 0 empty_nest) → IsIndexed also (r ∷ []) key (alone r)
-index_alone also key r e now = record {
-  nest = with_key 0 empty_nest;
+-- `new`: the root alone, whatever the nest tells of it
+pub index_alone : (also : Nest → Type 0) (key : ℕ → ℕ) (r : ℕ) (b : Bool) → key r ≡ 0 → also (with_awake 0 b (with_key 0 empty_nest)) → IsIndexed also (r ∷ []) key (alone r)
+index_alone also key r b e now = record {
+  nest = with_awake 0 b (with_key 0 empty_nest);
   nested = now;
   agrees = record {
     inside = λ m i. sym (ap (λ xs. map key xs) (ap (λ z. mems_in (alone r) z) (only m i) ∙ ap mems_by at));
-    awake = λ m i. ap (λ z. (with_key 0 empty_nest).awake z) (ap key (only m i) ∙ e) ∙ ap (λ v. v == 0) (sym (ap (λ z. mem_mark_of (alone r) z) (only m i) ∙ ap mem_mark_by at));
+    awake = λ m i d. absurd (d (only m i));
     others = λ k f. refl;
   };
   cells = λ m i. ap (λ k. slice_get (r ∷ []) k) (ap key (only m i) ∙ e) ∙ ap Some (sym (only m i));

@@ -71,25 +71,25 @@ mark_by_seen None = refl
 mark_by_seen (Some x) = refl
 
 -- A heap that has the same membranes, with other keys or the same, has the same nest.
-pub nest_same : (key new : ℕ → ℕ) (h t : Heap) (n : Nest) → ((m : ℕ) → seen_by (t.mems m) ≡ seen_by (h.mems m)) → ((m : ℕ) → IsMem h m → new m ≡ key m) → ((m y : ℕ) → In y (mems_in h m) → new y ≡ key y)
+pub nest_same : (key new : ℕ → ℕ) (h t : Heap) (n : Nest) → t.root ≡ h.root → ((m : ℕ) → seen_by (t.mems m) ≡ seen_by (h.mems m)) → ((m : ℕ) → IsMem h m → new m ≡ key m) → ((m y : ℕ) → In y (mems_in h m) → new y ≡ key y)
     → IsNestOf key h n → IsNestOf new t n
-nest_same key new h t n same own inner a = record {
+nest_same key new h t n root same own inner a = record {
   inside = λ m i. let j = seen_there (t.mems m) (h.mems m) (same m) i in
       ap n.inside (own m j) ∙ a.inside m j ∙ sym (map_same new key (mems_in h m) (inner m)) ∙ sym (ap (λ xs. map new xs) (list_by_seen (t.mems m) ∙ ap list_seen (same m) ∙ sym (list_by_seen (h.mems m))));
-  awake = λ m i. let j = seen_there (t.mems m) (h.mems m) (same m) i in
-      ap n.awake (own m j) ∙ a.awake m j ∙ ap (λ v. v == 0) (sym (mark_by_seen (t.mems m) ∙ ap mark_seen (same m) ∙ sym (mark_by_seen (h.mems m))));
+  awake = λ m i d. let j = seen_there (t.mems m) (h.mems m) (same m) i in
+      ap n.awake (own m j) ∙ a.awake m j (λ e. d (e ∙ sym root)) ∙ ap (λ v. v == 0) (sym (mark_by_seen (t.mems m) ∙ ap mark_seen (same m) ∙ sym (mark_by_seen (h.mems m))));
   others = λ k f. a.others k (λ m j e. f m (seen_there (h.mems m) (t.mems m) (sym (same m)) j) (own m j ∙ e));
 }
 
 module _ (key : ℕ → ℕ) (h : Heap) (n : Nest) (a : IsNestOf key h n) (own : (x y : ℕ) → IsMem h x → IsMem h y → key x ≡ key y → x ≡ y) where
   -- where one list is another
-  one_list : (t : Heap) → SameMarks h t → (m : ℕ) → IsMem h m → (ks : List ℕ) → ks ≡ map key (mems_in t m) → ((y : ℕ) → y ≢ m → mems_in t y ≡ mems_in h y) → IsNestOf key t (with_inside (key m) ks n)
-  one_list t s m i ks at away = record {
+  one_list : (t : Heap) → t.root ≡ h.root → SameMarks h t → (m : ℕ) → IsMem h m → (ks : List ℕ) → ks ≡ map key (mems_in t m) → ((y : ℕ) → y ≢ m → mems_in t y ≡ mems_in h y) → IsNestOf key t (with_inside (key m) ks n)
+  one_list t root s m i ks at away = record {
     inside = λ y j. elim (cases_eq y m) [
       | inl e ↦ subst (λ z. (with_inside (key m) ks n).inside (key z) ≡ map key (mems_in t z)) (sym e) (inside_at (key m) ks n ∙ at)
       | inr d ↦ inside_away (key m) ks n (key y) (λ e. d (own y m (s.back y j) i e)) ∙ a.inside y (s.back y j) ∙ ap (λ xs. map key xs) (sym (away y d))
     ];
-    awake = λ y j. a.awake y (s.back y j) ∙ ap (λ v. v == 0) (sym (s.marks y));
+    awake = λ y j d. a.awake y (s.back y j) (λ e. d (e ∙ sym root)) ∙ ap (λ v. v == 0) (sym (s.marks y));
     others = λ k f. inside_away (key m) ks n k (λ e. f m (s.there m i) (sym e)) ∙ a.others k (λ y j. f y (s.there y j));
   }
 
@@ -101,9 +101,9 @@ module _ (key : ℕ → ℕ) (h : Heap) (n : Nest) (a : IsNestOf key h n) (own :
       let back : (y : ℕ) → IsMem t y → IsMem h y = λ y j. sym (mark_there h m v y) ∙ j in
       record {
         inside = λ y j. a.inside y (back y j) ∙ ap (λ xs. map key xs) (sym (lists y));
-        awake = λ y j. elim (cases_eq y m) [
+        awake = λ y j r. elim (cases_eq y m) [
           | inl e ↦ subst (λ z. (with_awake (key m) (v == 0) n).awake (key z) ≡ (mem_mark_of t z == 0)) (sym e) (awake_at (key m) (v == 0) n ∙ ap (λ u. u == 0) (sym (ap mem_mark_by (alter_at h.mems m (option_map (mem_with_mark v))) ∙ now (h.mems m) i)))
-          | inr d ↦ awake_away (key m) (v == 0) n (key y) (λ e. d (own y m (back y j) i e)) ∙ a.awake y (back y j) ∙ ap (λ u. u == 0) (sym (ap mem_mark_by (alter_away h.mems m (option_map (mem_with_mark v)) y d)))
+          | inr d ↦ awake_away (key m) (v == 0) n (key y) (λ e. d (own y m (back y j) i e)) ∙ a.awake y (back y j) r ∙ ap (λ u. u == 0) (sym (ap mem_mark_by (alter_away h.mems m (option_map (mem_with_mark v)) y d)))
         ];
         others = λ k f. a.others k (λ y j. f y (mark_there h m v y ∙ j));
       }
@@ -112,15 +112,25 @@ module _ (key : ℕ → ℕ) (h : Heap) (n : Nest) (a : IsNestOf key h n) (own :
       now None s = absurd (cc)
       now (Some x) s = refl
 
+  -- `set_mem_mark` of the root
+  pub nest_root_marked : (v : ℕ) → IsNestOf key (mem_marked h h.root v) n
+  nest_root_marked v =
+      let back : (y : ℕ) → IsMem (mem_marked h h.root v) y → IsMem h y = λ y j. sym (mark_there h h.root v y) ∙ j in
+      record {
+        inside = λ y j. a.inside y (back y j) ∙ ap (λ xs. map key xs) (sym (change_keeps mems_by h.mems h.root (mem_with_mark v) (λ x. refl) y));
+        awake = λ y j d. a.awake y (back y j) d ∙ ap (λ u. u == 0) (sym (ap mem_mark_by (alter_away h.mems h.root (option_map (mem_with_mark v)) y d)));
+        others = λ k f. a.others k (λ y j. f y (mark_there h h.root v y ∙ j));
+      }
+
   -- `place_mem`
   pub nest_placed : (m x : ℕ) → IsMem h m → IsNestOf key (placed_mem h m x) (put (key m) (key x) n)
-  nest_placed m x i = one_list (placed_mem h m x) (in_marks h m x) m i (n.inside (key m) ++ key x ∷ [])
+  nest_placed m x i = one_list (placed_mem h m x) refl (in_marks h m x) m i (n.inside (key m) ++ key x ∷ [])
       (ap (λ ks. ks ++ key x ∷ []) (a.inside m i) ∙ sym (map_append key (mems_in h m) (x ∷ [])) ∙ ap (λ xs. map key xs) (sym (in_mems_at h m x i))) (in_mems_away h m x i)
 
   module _ (listed : Listed h) where
     -- `take_mem`
     pub nest_taken : (p x : ℕ) → parent_of h x ≡ Some p → IsMem h p → IsMem h x → IsNestOf key (taken_mem h x) (taken_from (key p) (key x) n)
-    nest_taken p x e i j = one_list (taken_mem h x) (out_marks h x) p i (without (key x) (n.inside (key p)))
+    nest_taken p x e i j = one_list (taken_mem h x) refl (out_marks h x) p i (without (key x) (n.inside (key p)))
         (ap (λ ks. without (key x) ks) (a.inside p i) ∙ sym (without_mapped key x (mems_in h p) (λ y q f. own y x (members h listed p y q) j f)) ∙ ap (λ xs. map key xs) (sym (out_at h x p e i))) (out_away h x p e)
 
     -- a key in which another stands is that of the membrane in which that one's stands
@@ -179,7 +189,7 @@ module _ (key : ℕ → ℕ) (h : Heap) (n : Nest) (a : IsNestOf key h n) (own :
         | inr g ↦ inside_away (key m) [] n (key y) (λ e. g (own y m b i e)) ∙ a.inside y b ∙ ap (λ xs. map key xs) (sym (move_mems_away h m q d i j y g f))
       ]
     ];
-    awake = λ y l. a.awake y (s.back y l) ∙ ap (λ v. v == 0) (sym (s.marks y));
+    awake = λ y l d. a.awake y (s.back y l) d ∙ ap (λ v. v == 0) (sym (s.marks y));
     others = λ k f. inside_away (key q) both inner k (λ e. f q (s.there q j) (sym e)) ∙ inside_away (key m) [] n k (λ e. f m (s.there m i) (sym e)) ∙ a.others k (λ y l. f y (s.there y l));
   }
     where
@@ -205,10 +215,10 @@ module _ (key : ℕ → ℕ) (h : Heap) (n : Nest) (a : IsNestOf key h n) (own :
       | inl e ↦ subst (λ z. n.inside (new z) ≡ map new (mems_in t z)) (sym e) (ap n.inside at ∙ a.others k free ∙ sym (ap (λ xs. map new xs) (ap mems_by at_c)))
       | inr d ↦ (let j = was m d i in ap n.inside (names m d j) ∙ a.inside m j ∙ sym (map_same new key (mems_in h m) (λ y l. names y (apart m y l) (members h listed m y l))) ∙ sym (ap (λ xs. map new xs) (ap mems_by (away m d))))
     ];
-    awake = λ m i. elim (cases_eq m c) [
+    awake = λ m i r. elim (cases_eq m c) [
       | inl e ↦ subst (λ z. cond (new z == k) true (n.awake (new z)) ≡ (mem_mark_of t z == 0)) (sym e) (ap (λ b. cond b true (n.awake (new c))) (eq-eqb (new c) k at) ∙ ap (λ v. v == 0) (sym (ap mem_mark_by at_c)))
       | inr d ↦ (let j = was m d i in let e = names m d j in
-          ap (λ b. cond b true (n.awake (new m))) (not_equal (new m) k (λ q. free m j (sym e ∙ q))) ∙ ap n.awake e ∙ a.awake m j ∙ ap (λ v. v == 0) (sym (ap mem_mark_by (away m d))))
+          ap (λ b. cond b true (n.awake (new m))) (not_equal (new m) k (λ q. free m j (sym e ∙ q))) ∙ ap n.awake e ∙ a.awake m j r ∙ ap (λ v. v == 0) (sym (ap mem_mark_by (away m d))))
     ];
     others = λ p f. a.others p (λ m j e. f m (subst (λ (o : Option HeapMem). IsSome o) (sym (away m (old m j))) j) (names m (old m j) j ∙ e));
   }
@@ -232,11 +242,11 @@ module _ (key : ℕ → ℕ) (h : Heap) (n : Nest) (a : IsNestOf key h n) (own :
       apart m y l = old y (members h listed m y l)
 
   -- `finish` and `discard`: what is freed is empty
-  pub nest_fewer : (new : ℕ → ℕ) (t : Heap) → ((m : ℕ) → IsMem t m → t.mems m ≡ h.mems m) → ((m : ℕ) → IsMem h m → IsMem t m ⊎ (mems_in h m ≡ [])) → ((m : ℕ) → IsMem t m → new m ≡ key m) → ((m y : ℕ) → IsMem t m → In y (mems_in t m) → new y ≡ key y)
+  pub nest_fewer : (new : ℕ → ℕ) (t : Heap) → t.root ≡ h.root → ((m : ℕ) → IsMem t m → t.mems m ≡ h.mems m) → ((m : ℕ) → IsMem h m → IsMem t m ⊎ (mems_in h m ≡ [])) → ((m : ℕ) → IsMem t m → new m ≡ key m) → ((m y : ℕ) → IsMem t m → In y (mems_in t m) → new y ≡ key y)
       → ((k : ℕ) → ((m : ℕ) → IsMem h m → key m ≢ k) ⊎ ((m : ℕ) × IsMem h m × (key m ≡ k))) → IsNestOf new t n
-  nest_fewer new t same left names members decide = record {
+  nest_fewer new t root same left names members decide = record {
     inside = λ m i. ap n.inside (names m i) ∙ a.inside m (back m i) ∙ ap (λ xs. map key xs) (sym (ap mems_by (same m i))) ∙ sym (map_same new key (mems_in t m) (λ y l. members m y i l));
-    awake = λ m i. ap n.awake (names m i) ∙ a.awake m (back m i) ∙ ap (λ v. v == 0) (sym (ap mem_mark_by (same m i)));
+    awake = λ m i d. ap n.awake (names m i) ∙ a.awake m (back m i) (λ e. d (e ∙ sym root)) ∙ ap (λ v. v == 0) (sym (ap mem_mark_by (same m i)));
     others = λ k f. by k f (decide k);
   }
     where

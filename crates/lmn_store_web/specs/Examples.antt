@@ -1,7 +1,7 @@
 -- A small web with the posts of a store, and what its heap has.
-use Rattle.std.specs.Prelude.{◌≡◌, ℕ, false, true, pos, negsuc, [], ◌∷◌, Option, Some, None}
+use Rattle.std.specs.Prelude.{◌≡◌, ◌==◌, ℕ, Bool, false, true, if◌then◌else◌, pos, negsuc, [], ◌∷◌, Option, Some, None}
 use Rattle.lmn_base.specs.declared.functor.Label.TheVariants.{Name, Int}
-use Rattle.lmn_store_heap.specs.Heap.{Heap, top, alter, home_of, mem_place_of, atoms_in}
+use Rattle.lmn_store_heap.specs.Heap.{Heap, top, alter, made_mem, home_of, mem_place_of, atoms_in}
 use Rattle.lmn_store_web_preorder.specs.Nests.{Nest, empty_nest, with_awake, with_key}
 use Rattle.lmn_web.specs.declared.kind.CellKind.TheVariants.{Atom, Membrane}
 use Rattle.lmn_web.specs.Webs.{WebCell, new_cell, added_last, label_class}
@@ -57,22 +57,36 @@ ValuesAreApart = label_class (label_number true (Int (pos 7))) ≡ label_class (
 abbrev pub IntegersAreTogether : Type 0
 IntegersAreTogether = label_class (label_number false (Int (pos 7))) ≡ label_class (label_number false (Int (pos 8)))
 
--- a key that is awake, with nothing in it
+-- a key that is awake, with nothing in it, and two of them
 abbrev pub one_key : Nest
 one_key = with_key 0 empty_nest
 
--- which is the nest of a root alone
-abbrev pub RootIsKey : Type 0
-RootIsKey = IsNestOf (λ _. 0) (alone 5) one_key
+abbrev pub two_keys : Nest
+two_keys = with_key 1 one_key
 
--- asleep it isn't, since a new membrane's mark is 0
+-- a root 5, and a membrane 6 that waits, with the keys 0 and 1
+abbrev pub two_mems : Heap
+two_mems = made_mem (alone 5) 6
+
+abbrev pub key_of_two : ℕ → ℕ
+key_of_two m = if m == 5 then 0 else 1
+
+-- a root alone is one key, whether this is awake or not: its mark alone tells that
+abbrev pub RootIsKey : Type 0
+RootIsKey = (b : Bool) → IsNestOf (λ _. 0) (alone 5) (with_awake 0 b one_key)
+
+-- a new membrane is a key that is awake, since its mark is 0
 abbrev pub KeyIsAwake : Type 0
-KeyIsAwake = IsNestOf (λ _. 0) (alone 5) (with_awake 0 false one_key) → ⊥
+KeyIsAwake = IsNestOf key_of_two two_mems two_keys
+
+-- and asleep it isn't
+abbrev pub SleeperIsNoKey : Type 0
+SleeperIsNoKey = IsNestOf key_of_two two_mems (with_awake 1 false two_keys) → ⊥
 
 -- what holds this nest, and a list with the root, index the root alone
 abbrev pub RootIsIndexed : Type 0
-RootIsIndexed = IsIndexed (λ n. n ≡ one_key) (5 ∷ []) (λ _. 0) (alone 5)
+RootIsIndexed = IsIndexed (λ n. n ≡ with_awake 0 false one_key) (5 ∷ []) (λ _. 0) (alone 5)
 
 -- a list with another membrane doesn't
 abbrev pub OtherIsNotIndexed : Type 0
-OtherIsNotIndexed = IsIndexed (λ n. n ≡ one_key) (6 ∷ []) (λ _. 0) (alone 5) → ⊥
+OtherIsNotIndexed = IsIndexed (λ n. n ≡ with_awake 0 false one_key) (6 ∷ []) (λ _. 0) (alone 5) → ⊥

@@ -9,10 +9,10 @@ use Rattle.lmn_web.specs.Webs.{WebCell, web_label}
 abbrev pub key_of : (ℕ → Option WebCell) → ℕ → ℕ
 key_of w m = unwrap_or (web_label w m) 0
 
--- The nest is that of the membranes of a heap, by their keys: in each stand those of the membranes in it, in order, and it is awake where the membrane is. In the key of no membrane nothing stands.
+-- The nest is that of the membranes of a heap, by their keys: in each stand those of the membranes in it, in order, and it is awake where the membrane is; whether the root is, its mark alone tells. In the key of no membrane nothing stands.
 pub record IsNestOf (key : ℕ → ℕ) (h : Heap) (n : Nest) : Type 0 where
   pub inside : (m : ℕ) → IsMem h m → n.inside (key m) ≡ map key (mems_in h m)
-  pub awake : (m : ℕ) → IsMem h m → n.awake (key m) ≡ (mem_mark_of h m == awake_mark)
+  pub awake : (m : ℕ) → IsMem h m → m ≢ h.root → n.awake (key m) ≡ (mem_mark_of h m == awake_mark)
   pub others : (k : ℕ) → ((m : ℕ) → IsMem h m → key m ≢ k) → n.inside k ≡ []
 
 -- The membranes of the heap are known by their keys: an index, told by the nests that it holds, holds theirs, and a list has each at its key.

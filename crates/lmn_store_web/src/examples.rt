@@ -1,5 +1,5 @@
 //! What the heap of a small web has. Each law is the contract of a function with an empty body.
-ghost use Rattle.lmn_store_web.specs.Examples.{AtomStands, AtomWaits, IntegerIsNoName, IntegersAreTogether, KeyIsAwake, LabelsAreRead, OtherIsNotIndexed, PostIsNoMembrane, RootIsAlone, RootIsIndexed, RootIsKey, ValuesAreApart, WaitingIsNotAlone};
+ghost use Rattle.lmn_store_web.specs.Examples.{AtomStands, AtomWaits, IntegerIsNoName, IntegersAreTogether, KeyIsAwake, LabelsAreRead, OtherIsNotIndexed, PostIsNoMembrane, RootIsAlone, RootIsIndexed, RootIsKey, SleeperIsNoKey, ValuesAreApart, WaitingIsNotAlone};
 
 /// An atom in the list of the root stands there.
 #[tactic(auto, using(crate::proofs::ExampleProofs::atom_stands))]
@@ -55,19 +55,25 @@ pub fn integers_are_together()
     ensures { IntegersAreTogether }
 {}
 
-/// A root alone is a key in which nothing stands.
+/// A root alone is a key in which nothing stands, awake or not.
 #[tactic(auto, using(crate::proofs::ExampleProofs::root_is_key))]
 pub fn root_is_key()
     ensures { RootIsKey }
 {}
 
-/// It is awake.
+/// A new membrane beside it is one that is awake.
 #[tactic(auto, using(crate::proofs::ExampleProofs::key_is_awake))]
 pub fn key_is_awake()
     ensures { KeyIsAwake }
 {}
 
-/// It is indexed by what has its key and its number.
+/// It isn't one that sleeps.
+#[tactic(auto, using(crate::proofs::ExampleProofs::sleeper_is_no_key))]
+pub fn sleeper_is_no_key()
+    ensures { SleeperIsNoKey }
+{}
+
+/// A root alone is indexed by what has its key and its number.
 #[tactic(auto, using(crate::proofs::ExampleProofs::root_is_indexed))]
 pub fn root_is_indexed()
     ensures { RootIsIndexed }

@@ -33,7 +33,7 @@ pub struct WebStore {
     rules: Slab<Rules>,
     // The membrane of each key.
     mems: Vec<Cell>,
-    // Which membranes stand in which, and which are awake, by their keys.
+    // Which membranes stand in which, and which are awake, by their keys. Whether the root is awake, its mark alone tells.
     index: Preorder,
     root: Cell,
     waiting: Cell,
@@ -106,6 +106,8 @@ impl WebStore {
         let mut index = Preorder::new(alloc);
         let key = rules.insert(Rules::new(alloc))?;
         index.add(key)?;
+        // Asleep, the root isn't found before those that the index is asked for.
+        index.set_awake(key, false);
         mems.reserve(1)?;
         let waiting = web.make_unfiled(0)?;
         let gone = web.make_unfiled(0)?;
@@ -282,8 +284,11 @@ impl LinkStore for WebStore {
     fn awake_from(&mut self, start: u64) -> Option<(u64, Cell)> {
         self.web.listed();
         self.web.paired();
+        if start == 0 && self.web.mark(self.root, 0) == AWAKE {
+            return Some((0, self.root));
+        }
         let top = self.place_of_rules(self.root);
-        match self.index.awake_from(top, start) {
+        match self.index.awake_from(top, start.max(1)) {
             None => None,
             Some((number, key)) => Some((number, self.mems[key])),
         }
@@ -313,6 +318,10 @@ impl LinkStore for WebStore {
     }
 
     fn set_mem_mark(&mut self, m: Cell, v: u64) {
+        if self.web.same(m, self.root) {
+            self.web.set_mark(m, 0, v);
+            return;
+        }
         let key = self.place_of_rules(m);
         let was = self.web.mark(m, 0) == AWAKE;
         self.web.set_mark(m, 0, v);

@@ -1,4 +1,4 @@
-use Rattle.std.proofs.Common.{◌∙◌, ap, subst, sym, List, Option, Some, None}
+use Rattle.std.proofs.Common.{◌∙◌, false, ap, subst, sym, List, Option, Some, None}
 use Rattle.std.specs.Prelude.{slice_index_or}
 use Rattle.lmn_store_counts.specs.RuleLists.{RuleList}
 use Rattle.lmn_web_cells.specs.CellIds.{cell_id}
@@ -12,7 +12,7 @@ use Rattle.std.specs.Option.{option_map}
 use Rattle.lmn_store_heap.proofs.Listing.{alter_at}
 use Rattle.lmn_web_cells.specs.declared.handle.Cell.{Cell}
 use Rattle.lmn_store_web_preorder.specs.Indexed.{IsNested}
-use Rattle.lmn_store_web_preorder.specs.Nests.{empty_nest, with_key}
+use Rattle.lmn_store_web_preorder.specs.Nests.{empty_nest, with_awake, with_key}
 use Rattle.lmn_web.specs.declared.kind.CellKind.TheVariants.{Membrane}
 use Rattle.lmn_web.specs.Webs.{WebCell, new_cell}
 use Rattle.lmn_store_web.specs.Indexes.{IsIndexed, key_of}
@@ -31,13 +31,13 @@ invariant_of-result c =
     let r = cell_id c.in_ok-root.root in
     let key : c.in_ok-key.key ≡ 0 = c.in_ok-key.ensures.key ∙ c.new-rules.ensures.first_key in
     let label = key_is (merged_by c.make.new.self) r c.in_ok-key.key (ap (λ (o : Option WebCell). option_map (λ q. q.label) o) ((λ j. c.in_ok-root.ensures.1 j r) ∙ alter_at (merged_by c.make_unfiled-2.new.self) r (λ _. Some (new_cell c.in_ok-key.key 0 Membrane)))) in
-    let now = subst (λ n. IsNested c.add.new.self (with_key n empty_nest)) key (c.in_ok-add.ensures.ok empty_nest c.new-index.ensures (record { next = omega (arith, key); bare = refl; top = λ p i. i })) in
+    let now = c.set_awake.ensures (with_key 0 empty_nest) (subst (λ n. IsNested c.add.new.self (with_key n empty_nest)) key (c.in_ok-add.ensures.ok empty_nest c.new-index.ensures (record { next = omega (arith, key); bare = refl; top = λ p i. i }))) (omega (arith, key)) in
     let none = c.new-mems.ensures.items in
     let cells : map cell_id c.push_reserved.new.self.items ≡ r ∷ [] = ap (λ (xs : List Cell). map cell_id xs) (c.push_reserved.ensures.items ∙ ap (λ (xs : List Cell). xs ++ c.in_ok-root.root ∷ []) (c.reserve.ensures.items ∙ none)) in
     record {
       store = record { stored = all.0; counts = all.1 };
-      index = subst (λ xs. IsIndexed (IsNested c.add.new.self) xs (key_of (merged_by c.make.new.self)) (heap_by (record { root = r; waiting = cell_id c.in_ok-waiting.waiting; gone = cell_id c.in_ok-gone.gone; by_value = c.args.by_value }) c.insert.new.self.slots (merged_by c.make.new.self))) (sym cells)
-          (index_by (IsNested c.add.new.self) (r ∷ []) (key_of (merged_by c.make.new.self)) (key_of (merged_by c.make.new.self)) (alone r) (heap_by (record { root = r; waiting = cell_id c.in_ok-waiting.waiting; gone = cell_id c.in_ok-gone.gone; by_value = c.args.by_value }) c.insert.new.self.slots (merged_by c.make.new.self)) (λ m. refl) all.2 (index_alone (IsNested c.add.new.self) (key_of (merged_by c.make.new.self)) r (label ∙ key) now));
+      index = subst (λ xs. IsIndexed (IsNested c.set_awake.new.self) xs (key_of (merged_by c.make.new.self)) (heap_by (record { root = r; waiting = cell_id c.in_ok-waiting.waiting; gone = cell_id c.in_ok-gone.gone; by_value = c.args.by_value }) c.insert.new.self.slots (merged_by c.make.new.self))) (sym cells)
+          (index_by (IsNested c.set_awake.new.self) (r ∷ []) (key_of (merged_by c.make.new.self)) (key_of (merged_by c.make.new.self)) (alone r) (heap_by (record { root = r; waiting = cell_id c.in_ok-waiting.waiting; gone = cell_id c.in_ok-gone.gone; by_value = c.args.by_value }) c.insert.new.self.slots (merged_by c.make.new.self)) (λ m. refl) all.2 (index_alone (IsNested c.set_awake.new.self) (key_of (merged_by c.make.new.self)) r false (label ∙ key) (subst (λ z. IsNested c.set_awake.new.self (with_awake z false (with_key 0 empty_nest))) key now)));
     }
 
 pub returns-clause-heap : goal.returns-clause-heap
@@ -53,3 +53,8 @@ returns-clause-valid c =
     (λ i d. c.in_ok-key.ensures.updates.others i d ∙ ap (λ (xs : List (Option RuleList)). slice_index_or xs i None) c.new-rules.ensures.empty) in
     let r = cell_id c.in_ok-root.root in
     subst Valid (sym all.2) (alone_valid r (subst Sound all.2 (heap_sound _ _ _ all.0 c.listed.ensures c.paired.ensures (merged_formed c.make.new.self))))
+
+pub set_awake-requires : goal.set_awake-requires
+set_awake-requires c =
+    let key : c.in_ok-key.key ≡ 0 = c.in_ok-key.ensures.key ∙ c.new-rules.ensures.first_key in
+    (with_key 0 empty_nest, subst (λ n. IsNested c.add.new.self (with_key n empty_nest)) key (c.in_ok-add.ensures.ok empty_nest c.new-index.ensures (record { next = omega (arith, key); bare = refl; top = λ p i. i })), omega (arith, key))

@@ -40,7 +40,7 @@ invariant_of-self c =
         counts = more_counts k.posts k.table (merged_by k.web) c.self.invariant.store.stored m c.place_of_rules-place.result s h _ _ _ c.self.invariant.store.counts _ (c.args.k ∷ []) c.push.ensures
             (subst (λ (z : KeptWeb). 1 ≤ spare_of (heap_of z) m) (sym c.self.view_is) c.requires.spare);
       };
-      index = index_kept _ _ _ _ c.self.invariant.index _ _ (λ m. refl) (λ y. ap (λ (u : Heap). seen_by (u.mems y)) t ∙ seen_rules (heap_of k) m (c.args.k ∷ []) y);
+      index = index_kept _ _ _ _ c.self.invariant.index _ _ refl (λ m. refl) (λ y. ap (λ (u : Heap). seen_by (u.mems y)) t ∙ seen_rules (heap_of k) m (c.args.k ∷ []) y);
     }
 
 pub returns : goal.returns

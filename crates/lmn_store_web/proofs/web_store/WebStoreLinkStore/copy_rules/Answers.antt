@@ -120,7 +120,7 @@ invariant_of-self c =
         counts = subst (λ z. HasCounts (atoms_of k.posts v) (mems_of k.posts t1 v) c.self.inside.atom_count (c.self.inside.mem_count + z) (c.self.inside.spare_count - z)) (sym c.append-count.ensures.count)
             (more_counts k.posts k.table v inv b c.place_of_rules-to.result u g _ _ _ c.self.invariant.store.counts t1 ks c.append-count.ensures.rows room);
       };
-      index = index_kept _ _ _ _ c.self.invariant.index _ _ (λ m. refl) (λ y. ap (λ (z : Heap). seen_by (z.mems y)) e ∙ seen_rules (heap_of k) b ks y);
+      index = index_kept _ _ _ _ c.self.invariant.index _ _ refl (λ m. refl) (λ y. ap (λ (z : Heap). seen_by (z.mems y)) e ∙ seen_rules (heap_of k) b ks y);
     }
 
 pub returns : goal.returns

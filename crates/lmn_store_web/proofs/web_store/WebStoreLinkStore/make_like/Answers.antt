@@ -145,7 +145,7 @@ invariant_of-self-2 c =
         stored = atom_stored p k.table v w a c.label-label.result c.arity-arity.result d inv range;
         counts = made_atom_counts p k.table v w a c.label-label.result c.arity-arity.result d inv range f refl refl _ _ _ (omega (arith, low)) c.self.invariant.store.counts;
       };
-      index = index_same _ _ _ _ c.self.invariant.index (key_of w) (heap_by p k.table w) (λ m. ap (λ (h : Heap). seen_by (h.mems m)) heap) (made_key p v w a Atom c.label-label.result c.arity-arity.result d k.table) (λ m y i. made_key p v w a Atom c.label-label.result c.arity-arity.result d k.table y (members (heap_by p k.table v) listed m y i));
+      index = index_same _ _ _ _ c.self.invariant.index (key_of w) (heap_by p k.table w) refl (λ m. ap (λ (h : Heap). seen_by (h.mems m)) heap) (made_key p v w a Atom c.label-label.result c.arity-arity.result d k.table) (λ m y i. made_key p v w a Atom c.label-label.result c.arity-arity.result d k.table y (members (heap_by p k.table v) listed m y i));
     }
 
 pub returns-clause-ok : goal.returns-clause-ok

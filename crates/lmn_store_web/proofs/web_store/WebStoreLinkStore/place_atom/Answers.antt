@@ -72,7 +72,7 @@ invariant_of-self c =
         stored = sent_stored w v k.posts.waiting n x s k.posts k.table c.self.invariant.store.stored q.home q.no_line q.fits c.self.invariant.store.stored.apart;
         counts = sent_counts w v k.posts.waiting n x s k.posts k.table _ _ _ c.self.invariant.store.counts;
       };
-      index = index_kept _ _ _ _ c.self.invariant.index _ _ (λ m. key_by w v m (label_same w v k.posts.waiting n x s m)) (λ m. ap (λ (h : Heap). seen_by (h.mems m)) t ∙ seen_placed (heap_of k) n x m);
+      index = index_kept _ _ _ _ c.self.invariant.index _ _ refl (λ m. key_by w v m (label_same w v k.posts.waiting n x s m)) (λ m. ap (λ (h : Heap). seen_by (h.mems m)) t ∙ seen_placed (heap_of k) n x m);
     }
 
 pub returns-clause-first : goal.returns-clause-first

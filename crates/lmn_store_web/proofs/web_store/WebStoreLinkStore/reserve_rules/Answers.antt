@@ -34,7 +34,7 @@ invariant_of-self-2 c =
         stored = room_stored k.posts k.table (merged_by k.web) c.self.invariant.store.stored m c.place_of_rules-place.result s h _ _ _ c.self.invariant.store.counts _ c.args.n c.in_ok-reserve.ensures.ok;
         counts = room_counts k.posts k.table (merged_by k.web) c.self.invariant.store.stored m c.place_of_rules-place.result s h _ _ _ c.self.invariant.store.counts _ c.args.n c.in_ok-reserve.ensures.ok c.spare-spare.result is (omega (arith, more)) (omega (arith, low, more, bound));
       };
-      index = index_kept _ _ _ _ c.self.invariant.index _ _ (λ m. refl) (λ y. ap (λ (u : Heap). seen_by (u.mems y)) t ∙ seen_reserved (heap_of k) m c.args.n y);
+      index = index_kept _ _ _ _ c.self.invariant.index _ _ refl (λ m. refl) (λ y. ap (λ (u : Heap). seen_by (u.mems y)) t ∙ seen_reserved (heap_of k) m c.args.n y);
     }
 
 pub returns-clause-least : goal.returns-clause-least

@@ -1,4 +1,4 @@
-use Rattle.std.proofs.Common.{subst, sym, ap, ◌≤◌, ◌∙◌, ℕ, inl}
+use Rattle.std.proofs.Common.{refl, subst, sym, ap, ◌≤◌, ◌∙◌, ℕ, inl}
 use Rattle.lmn_store_heap.specs.Heap.{IsAtom, arity_of}
 use Rattle.lmn_web_cells.specs.CellIds.{cell_id}
 use Rattle.lmn_web_merging.specs.Keepers.{merged_by}
@@ -40,7 +40,7 @@ invariant_of-self c =
         stored = subst (λ (f : ℕ → Option WebCell). IsStored k.posts k.table f) (sym e) (stored_same v _ (core_same k.posts k.table v a c.args.slot c.args.v (inl i.1)) k.posts k.table c.self.invariant.store.stored);
         counts = subst (λ (f : ℕ → Option WebCell). HasCounts (atoms_of k.posts f) (mems_of k.posts k.table f) c.self.inside.atom_count c.self.inside.mem_count c.self.inside.spare_count) (sym e) (marked_counts k.posts k.table v a c.args.slot c.args.v (inl i.1) i.1 _ _ _ c.self.invariant.store.counts);
       };
-      index = index_kept _ _ _ _ c.self.invariant.index _ _ (λ m. key_by v (merged_by c.set_mark.new.self) m (ap (λ (f : ℕ → Option WebCell). web_label f m) e ∙ label_same v _ (core_same k.posts k.table v a c.args.slot c.args.v (inl i.1)) m)) (λ m. ap (λ (h : Heap). seen_by (h.mems m)) t);
+      index = index_kept _ _ _ _ c.self.invariant.index _ _ refl (λ m. key_by v (merged_by c.set_mark.new.self) m (ap (λ (f : ℕ → Option WebCell). web_label f m) e ∙ label_same v _ (core_same k.posts k.table v a c.args.slot c.args.v (inl i.1)) m)) (λ m. ap (λ (h : Heap). seen_by (h.mems m)) t);
     }
 
 pub returns : goal.returns

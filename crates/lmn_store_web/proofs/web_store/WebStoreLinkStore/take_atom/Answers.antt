@@ -62,7 +62,7 @@ invariant_of-self c =
         stored = sent_stored w v h.0 k.posts.gone x s k.posts k.table c.self.invariant.store.stored q.home (λ e. c.self.invariant.store.stored.apart (sym e)) q.fits i.3;
         counts = sent_counts w v h.0 k.posts.gone x s k.posts k.table _ _ _ c.self.invariant.store.counts;
       };
-      index = index_kept _ _ _ _ c.self.invariant.index _ _ (λ m. key_by w v m (label_same w v h.0 k.posts.gone x s m)) (λ m. ap (λ (h : Heap). seen_by (h.mems m)) t ∙ seen_taken (heap_of k) x m);
+      index = index_kept _ _ _ _ c.self.invariant.index _ _ refl (λ m. key_by w v m (label_same w v h.0 k.posts.gone x s m)) (λ m. ap (λ (h : Heap). seen_by (h.mems m)) t ∙ seen_taken (heap_of k) x m);
     }
 
 pub returns : goal.returns
