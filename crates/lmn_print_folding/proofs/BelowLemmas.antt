@@ -2,8 +2,8 @@
 use Rattle.std.proofs.Common.{◌≡◌, ◌≢◌, ℕ, suc, ◌+◌, ◌-◌, ◌<◌, ◌≤◌, ◌==◌, ◌&&◌, ◌||◌, ◌⊎◌, inl, inr, not, true, false, if◌then◌else◌, List, [], ◌∷◌, Option, Some, None, refl, sym, ap, ◌∙◌, subst, arith}
 use Rattle.lmn_store_heap.specs.Heap.{Heap, arity_of, link_of, own_mark}
 use Rattle.lmn_store_heap.specs.Sound.{Paired}
-use Rattle.lmn_print_folding.specs.Marks.{is_item, is_end_of_term, term_by, term_at, argument_count, Event, leaves, WalkMeets, turns}
-use Rattle.lmn_print_folding.proofs.FewTurns.{entered}
+use Rattle.lmn_print_folding.specs.Marks.{is_item, is_end_of_term, term_by, term_at, argument_count, Event, leaves, WalkMeets}
+use Rattle.lmn_print_folding.proofs.FewTurns.{entered, turns}
 use Rattle.lmn_print_folding.proofs.WalkLemmas.{at_link, at_term, at_end_of_term, at_end_of_item, arguments_of_term}
 use Rattle.lmn_print_folding.specs.Chosen.{ChangesOwnMarks}
 use Rattle.lmn_print_folding.specs.Marking.{MarksTerms, SetsOwnMark}

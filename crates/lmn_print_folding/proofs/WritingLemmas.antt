@@ -6,7 +6,8 @@ use Rattle.lmn_store_heap.specs.Heap.{Heap, arity_of, link_of}
 use Rattle.lmn_io.specs.Gathering.{SinkState, Adds}
 use Rattle.lmn_flatten_plain.specs.Words.{link_name}
 use Rattle.lmn_print_plain.proofs.DueLemmas.{Due, due_first, due_next, due_last}
-use Rattle.lmn_print_folding.specs.Marks.{is_item, term_at, argument_count, Event, WalkMeets, turns}
+use Rattle.lmn_print_folding.specs.Marks.{is_item, term_at, argument_count, Event, WalkMeets}
+use Rattle.lmn_print_folding.proofs.FewTurns.{turns}
 use Rattle.lmn_print_folding.specs.Events.{before_argument, behind_arguments, opening, events_text}
 use Rattle.lmn_print_folding.proofs.WalkLemmas.{at_link, at_term, at_end_of_term, at_end_of_item, arguments_of_term}
 use Rattle.lmn_store_heap.proofs.Common.{same_port}

@@ -1,5 +1,5 @@
 -- How atoms are printed stands in their own marks.
-use Rattle.std.specs.Prelude.{ℕ, suc, ◌≡◌, ◌<◌, ◌+◌, ◌-◌, ◌==◌, ◌&&◌, ◌||◌, not, Bool, true, false, if◌then◌else◌, List, [], ◌∷◌, Option, Some, None}
+use Rattle.std.specs.Prelude.{ℕ, ◌≡◌, ◌<◌, ◌+◌, ◌-◌, ◌==◌, ◌&&◌, ◌||◌, not, Bool, true, false, if◌then◌else◌, List, [], ◌∷◌, Option, Some, None}
 use Rattle.lmn_store_heap.specs.Heap.{Heap, arity_of, link_of, own_mark}
 
 -- the own mark of an item that is no child, of one that is a child, and of a term
@@ -47,12 +47,12 @@ pub data WalkMeets (s : Heap) : ℕ → ℕ → List Event → Type 0 where
       → WalkMeets s p (j + 1) es → WalkMeets s a i (leaves a ∷ es)
   end_of_item : {a i : ℕ} → i ≡ argument_count s a → is_item s a ≡ true → WalkMeets s a i (leaves a ∷ [])
 
--- how often a walk turns into a term, or leaves an atom
-abbrev pub turns : List Event → ℕ
-turns [] = 0
-turns (meets_link a i ∷ es) = turns es
-turns (meets_term a i c ∷ es) = suc (turns es)
-turns (leaves a ∷ es) = suc (turns es)
+-- the atoms that a walk leaves
+abbrev pub atoms_left : List Event → List ℕ
+atoms_left [] = []
+atoms_left (meets_link a i ∷ es) = atoms_left es
+atoms_left (meets_term a i c ∷ es) = atoms_left es
+atoms_left (leaves a ∷ es) = a ∷ atoms_left es
 
 -- the links that are met, by the names of links at ports
 abbrev pub links_met : List Event → (ℕ → ℕ → ℕ) → List ℕ

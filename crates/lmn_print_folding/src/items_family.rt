@@ -1,5 +1,5 @@
 //! Atoms that are children of others, and own marks that are set.
-ghost use Rattle.std.specs.Prelude.{◌≡◌, ◌+◌, ◌-◌, ◌<◌, ◌↔◌, ◌⊎◌, IsTrue, true, false, Some};
+ghost use Rattle.std.specs.Prelude.{◌≡◌, ◌+◌, ◌-◌, ◌<◌, ◌↔◌, ◌⊎◌, ◌^◌, IsTrue, true, false, Some};
 ghost use Rattle.lmn_store_heap.specs.Heap.{IsAtom, arity_of, link_of, own_mark};
 ghost use Rattle.lmn_store_heap.specs.Sound.{Valid};
 ghost use Rattle.lmn_print_folding.specs.Marking.{AreBeside, IsChildNowhere, IsChildSomewhere, SetsOwnMark, TellsBefore};
@@ -7,10 +7,11 @@ ghost use Rattle.lmn_print_folding.specs.Marking.{AreBeside, IsChildNowhere, IsC
 use crate::{FIRST_ITEM, arity, own_mark};
 use lmn_store_trait::LinkStore;
 
-/// Changes the own mark of an atom.
+/// Changes the own mark of an atom, to a number below 2^56.
 pub(crate) fn set_own_mark<S: LinkStore>(store: &mut S, atom: S::Atom, mark: u64)
     requires valid { Valid (S.heap store.old) }
     requires atom { IsAtom (S.heap store.old) (S.atom_id atom) }
+    requires small { mark < 2 ^ 56 }
     ensures valid { Valid (S.heap store.new) }
     ensures set { SetsOwnMark (S.heap store.old) (S.heap store.new) (S.atom_id atom) mark }
 {

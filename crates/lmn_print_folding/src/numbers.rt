@@ -1,10 +1,10 @@
 //! The numbers of printed links, in the marks of their ports: each mark is greater by one.
-ghost use Rattle.std.specs.Prelude.{◌<◌, ◌≤◌, ◌+◌, ◌*◌, ◌^◌, List};
+ghost use Rattle.std.specs.Prelude.{◌<◌, ◌≤◌, ◌+◌, ◌*◌, ◌^◌, List, length};
 ghost use Rattle.lmn_base.specs.Limits.{most_links};
 ghost use Rattle.lmn_store_heap.specs.Heap.{IsAtom};
 ghost use Rattle.lmn_store_heap.specs.Sound.{Valid};
 ghost use Rattle.lmn_print_plain.specs.Numbers.{GoOn, Remarks};
-ghost use Rattle.lmn_print_folding.specs.Marks.{Event, WalkMeets, links_met, turns};
+ghost use Rattle.lmn_print_folding.specs.Marks.{Event, WalkMeets, atoms_left, links_met};
 
 use crate::family::{arguments, is_item, term_at};
 use crate::walk::{Stand, behind_term};
@@ -13,15 +13,15 @@ use lmn_store_trait::LinkStore;
 
 /// Gives the printed links of an item, and of the terms in it, that have none their numbers, where so many links have one.
 /// Answers how many have one then.
-/// Room for the numbers is counted by the turns of the walk and not by what it meets, since a heap doesn't bound
-/// arities: at most 255 ports lie between two turns.
+/// Room for the numbers is counted by the atoms that the walk leaves and not by what it meets, since a heap doesn't bound
+/// arities: an atom has at most 255 ports.
 pub fn number_item<S: LinkStore>(store: &mut S, item: S::Atom, count: u64) -> u64
     requires valid { Valid (S.heap store.old) }
     requires atom { IsAtom (S.heap store.old) (S.atom_id item) }
-    requires walk { (es : List Event) × WalkMeets (S.heap store.old) (S.atom_id item) 0 es × (count + most_links * turns es < 2 ^ 64) }
+    requires walk { (es : List Event) × WalkMeets (S.heap store.old) (S.atom_id item) 0 es × (count + most_links * length (atoms_left es) < 2 ^ 56) }
     ensures marks { Remarks (S.heap store.old) (S.heap store.new) }
     ensures numbers { (es : List Event) → WalkMeets (S.heap store.old) (S.atom_id item) 0 es → GoOn (S.heap store.old) (S.heap store.new) count result (links_met es) }
-    ensures few { (es : List Event) → WalkMeets (S.heap store.old) (S.atom_id item) 0 es → result ≤ count + most_links * turns es }
+    ensures few { (es : List Event) → WalkMeets (S.heap store.old) (S.atom_id item) 0 es → result ≤ count + most_links * length (atoms_left es) }
 {
     let _root = store.root();
     let mut numbered = count;

@@ -45,7 +45,7 @@ pub number_port-numbered-requires-clause-count : goal.number_port-numbered-requi
 number_port-numbered-requires-clause-count g c =
     let small : c.loop-at.at.port < 255 = omega arith in
     let room =
-    numbers_room (g.S.LinkStore.heap c.args.store.now) (g.S.LinkStore.atom_id c.args.item) c.args.count (g.S.LinkStore.heap c.loop-at.store) (g.S.LinkStore.atom_id c.loop-at.at.atom) c.loop-at.at.port c.loop-at.numbered c.loop-at.turns
+    numbers_room (g.S.LinkStore.heap c.args.store.now) (g.S.LinkStore.atom_id c.args.item) c.args.count (g.S.LinkStore.heap c.loop-at.store) (g.S.LinkStore.atom_id c.loop-at.at.atom) c.loop-at.at.port c.loop-at.numbered c.loop-at.turns c.requires.valid.sound.paired
     c.loop-at.invariant.walk small c.requires.walk.0 c.requires.walk.1 in
     let most = c.requires.walk.2 in
     omega (arith, room, most)
@@ -76,7 +76,8 @@ loop-at-preserved-in-Some g c =
     let at = g.S.LinkStore.atom_id c.loop-at.at.atom in
     let r = c.loop-at.invariant.marks in
     let low = subst (λ n. c.loop-at.at.port < n) (c.arguments.ensures ∙ arguments_same s t r at) c.if-at-arguments.true in
-    let walk = numbers_term s item c.args.count t at c.loop-at.at.port (g.S.LinkStore.atom_id c.in-Some.term) c.loop-at.numbered c.loop-at.turns c.loop-at.invariant.walk c.loop-at.invariant.low low (sym (term_same s t r at c.loop-at.at.port) ∙ sym c.in-Some.ensures.term) in
+    let small : c.loop-at.at.port < 255 = omega arith in
+    let walk = numbers_term s item c.args.count t at c.loop-at.at.port (g.S.LinkStore.atom_id c.in-Some.term) c.loop-at.numbered c.loop-at.turns c.requires.valid.sound.paired c.loop-at.invariant.walk small low (sym (term_same s t r at c.loop-at.at.port) ∙ sym c.in-Some.ensures.term) in
     let most = few_turns s c.requires.valid.sound.paired c.root-root.ensures.few item 0 c.requires.walk.0 c.requires.atom c.requires.walk.1 in
     let room = numbers_turns s item c.args.count t (g.S.LinkStore.atom_id c.in-Some.term) 0 c.loop-at.numbered (c.loop-at.turns + 1) walk c.requires.walk.0 c.requires.walk.1 in
     record { atom = atom_before s t r (g.S.LinkStore.atom_id c.in-Some.term) c.in-Some.ensures.atom; marks = r; walk = walk; few = omega (arith, most, room); low = omega arith }
@@ -123,7 +124,7 @@ returns-then-is_item-clause-numbers g c = λ es w.
     let t = g.S.LinkStore.heap c.loop-at.store in
     let at = g.S.LinkStore.atom_id c.loop-at.at.atom in
     let r = c.loop-at.invariant.marks in
-    (numbers_all s (g.S.LinkStore.atom_id c.args.item) c.args.count t at c.loop-at.at.port c.loop-at.numbered c.loop-at.turns c.loop-at.invariant.walk c.loop-at.invariant.low
+    (numbers_all s (g.S.LinkStore.atom_id c.args.item) c.args.count t at c.loop-at.at.port c.loop-at.numbered c.loop-at.turns c.requires.valid.sound.paired c.loop-at.invariant.walk c.loop-at.invariant.low
     (subst (λ n. n ≤ c.loop-at.at.port) (c.arguments.ensures ∙ arguments_same s t r at) c.if-at-arguments.false) (sym (item_same s t r at) ∙ sym c.is_item.ensures ∙ c.if-is_item.true) es w).0
 
 pub returns-then-is_item-clause-few : goal.returns-then-is_item-clause-few
@@ -132,5 +133,5 @@ returns-then-is_item-clause-few g c = λ es w.
     let t = g.S.LinkStore.heap c.loop-at.store in
     let at = g.S.LinkStore.atom_id c.loop-at.at.atom in
     let r = c.loop-at.invariant.marks in
-    (numbers_all s (g.S.LinkStore.atom_id c.args.item) c.args.count t at c.loop-at.at.port c.loop-at.numbered c.loop-at.turns c.loop-at.invariant.walk c.loop-at.invariant.low
+    (numbers_all s (g.S.LinkStore.atom_id c.args.item) c.args.count t at c.loop-at.at.port c.loop-at.numbered c.loop-at.turns c.requires.valid.sound.paired c.loop-at.invariant.walk c.loop-at.invariant.low
     (subst (λ n. n ≤ c.loop-at.at.port) (c.arguments.ensures ∙ arguments_same s t r at) c.if-at-arguments.false) (sym (item_same s t r at) ∙ sym c.is_item.ensures ∙ c.if-is_item.true) es w).1
