@@ -1,7 +1,7 @@
 -- The links of items get their numbers, item by item.
-use Rattle.std.proofs.Common.{◌≡◌, ℕ, ◌+◌, ◌*◌, ◌<◌, ◌≤◌, ◌^◌, List, [], ◌∷◌, ◌++◌, Option, Some, None, IfSome, refl, sym, ap, ◌∙◌, subst, arith}
+use Rattle.std.proofs.Common.{◌≡◌, ℕ, ◌+◌, ◌*◌, ◌<◌, ◌≤◌, ◌^◌, List, [], ◌∷◌, ◌++◌, length, Option, Some, None, IfSome, refl, sym, ap, ◌∙◌, subst, arith}
 use Rattle.std.specs.Option.{option_map}
-use Rattle.std.proofs.lemmas.List.{append-nil, append_assoc}
+use Rattle.std.proofs.lemmas.List.{append-nil, append_assoc, length-append}
 use Rattle.lmn_base.specs.Limits.{most_links}
 use Rattle.lmn_base.specs.Links.{Numbers}
 use Rattle.lmn_base.specs.declared.rule.RuleTree.{RuleTree}
@@ -12,7 +12,7 @@ use Rattle.lmn_store_heap.specs.Lists.{from, after}
 use Rattle.lmn_store_heap.specs.Solid.{IsNaming}
 use Rattle.lmn_store_heap.specs.Sound.{Forest, flat, IsTree, Valid, AtMost}
 use Rattle.lmn_store_heap.proofs.Trees.{root_first}
-use Rattle.lmn_print_folding.specs.Marks.{Event, meets_link, meets_term, leaves, WalkMeets, link, term, end_of_term, end_of_item, links_met, turns}
+use Rattle.lmn_print_folding.specs.Marks.{Event, leaves, WalkMeets, link, term, end_of_term, end_of_item, links_met, atoms_left}
 use Rattle.lmn_print_folding.proofs.NumberedWalks.{item_same, arguments_same, term_same}
 use Rattle.lmn_print_folding.specs.Chosen.{items_in}
 use Rattle.lmn_print_plain.specs.Numbers.{Remarks, GoOn}
@@ -22,18 +22,15 @@ use Rattle.lmn_print_plain.proofs.NumberLemmas.{mark_high, go_none, go_more, go_
 use Rattle.lmn_print_plain.proofs.SolidLinks.{numbers_below}
 use Rattle.lmn_print.specs.Printed.{PrintsForest, IsNumberedBy}
 use Rattle.lmn_print.specs.Walked.{printed_items, ItemsWalked, none, more, IsPrinted}
-use Rattle.lmn_print.proofs.FewItemTurns.{few_item_turns}
+use Rattle.lmn_print.proofs.FewItemAtoms.{atoms_left_append, few_items_left}
 use Rattle.lmn_print.proofs.FirstNumbers.{first_numbers, renamed_naming}
 use Rattle.lmn_print.proofs.ItemsOnce.{printed_items_once, items_atoms}
 use Rattle.lmn_print.proofs.RenamedForests.{forest_renamed, forest_told, items_same}
 use Rattle.lmn_print.proofs.WalkedLinks.{met_append, forest_walked}
 use Rattle.lmn_base.proofs.Common.{all_met}
 
-turns_append : (es fs : List Event) → turns (es ++ fs) ≡ turns es + turns fs
-turns_append [] fs = omega arith
-turns_append (meets_link a i ∷ es) fs = turns_append es fs
-turns_append (meets_term a i c ∷ es) fs = let e = turns_append es fs in omega (arith, e)
-turns_append (leaves a ∷ es) fs = let e = turns_append es fs in omega (arith, e)
+left_parts : (es fs : List Event) → length (atoms_left (es ++ fs)) ≡ length (atoms_left es) + length (atoms_left fs)
+left_parts es fs = ap length (atoms_left_append es fs) ∙ length-append (atoms_left es) (atoms_left fs)
 
 -- other marks of ports don't change the walks
 module _ (s t : Heap) (r : Remarks s t) where
@@ -88,42 +85,42 @@ one_item s a (b ∷ xs) _ e (more {fs = fs} es w h) =
 module _ (s : Heap) (count : ℕ) (all : List ℕ) where
   abbrev pub ItemsLeft : Heap → List ℕ → ℕ → Type 0
   ItemsLeft t left n = (es : List Event) → ItemsWalked s all es → (fs : List Event) × ItemsWalked s left fs × (done : (ℕ → ℕ → ℕ) → List ℕ)
-      × ((name : ℕ → ℕ → ℕ) → done name ++ links_met fs name ≡ links_met es name) × GoOn s t count n done × (n + most_links * turns fs ≤ count + most_links * turns es)
+      × ((name : ℕ → ℕ → ℕ) → done name ++ links_met fs name ≡ links_met es name) × GoOn s t count n done × (n + most_links * length (atoms_left fs) ≤ count + most_links * length (atoms_left es))
 
   pub left_first : (left : List ℕ) → left ≡ all → ItemsLeft s left count
   left_first left e es w = (es, subst (λ xs. ItemsWalked s xs es) (sym e) w, (λ name. []), (λ name. refl), go_none s count, omega arith)
 
   -- the first part of them is done
   pub left_more : (t u : Heap) (xs ys left : List ℕ) (n m : ℕ) → Remarks s t → ItemsLeft t left n → left ≡ xs ++ ys
-      → ((ws : List Event) → ItemsWalked s xs ws → GoOn t u n m (links_met ws) × (m ≤ n + most_links * turns ws)) → ItemsLeft u ys m
+      → ((ws : List Event) → ItemsWalked s xs ws → GoOn t u n m (links_met ws) × (m ≤ n + most_links * length (atoms_left ws))) → ItemsLeft u ys m
   left_more t u xs ys left n m r h e go es w =
       let l = h es w in
       let p = parts s xs ys left l.0 e l.1 in
       let g = go p.first p.first_walked in
       let few = l.5 in
       let low = g.1 in
-      let turned : turns l.0 ≡ turns p.first + turns p.rest = ap turns p.whole ∙ turns_append p.first p.rest in (
+      let parted : length (atoms_left l.0) ≡ length (atoms_left p.first) + length (atoms_left p.rest) = ap (λ gs. length (atoms_left gs)) p.whole ∙ left_parts p.first p.rest in (
         p.rest,
         p.rest_walked,
         (λ name. l.2 name ++ links_met p.first name),
         (λ name. append_assoc (l.2 name) (links_met p.first name) (links_met p.rest name)
             ∙ ap (λ zs. l.2 name ++ zs) (sym (met_append p.first p.rest name) ∙ ap (λ gs. links_met gs name) (sym p.whole)) ∙ l.3 name),
         go_more s t u count n m l.2 (links_met p.first) r l.4 g.0,
-        omega (arith, few, low, turned),
+        omega (arith, few, low, parted),
       )
 
   -- there is room for the numbers of the first part
-  pub left_room : (t : Heap) (xs ys left : List ℕ) (n : ℕ) (es : List Event) → ItemsLeft t left n → left ≡ xs ++ ys → ItemsWalked s all es → count + most_links * turns es < 2 ^ 64
-      → (ws : List Event) × ItemsWalked s xs ws × (n + most_links * turns ws < 2 ^ 64)
+  pub left_room : (t : Heap) (xs ys left : List ℕ) (n : ℕ) (es : List Event) → ItemsLeft t left n → left ≡ xs ++ ys → ItemsWalked s all es → count + most_links * length (atoms_left es) < 2 ^ 56
+      → (ws : List Event) × ItemsWalked s xs ws × (n + most_links * length (atoms_left ws) < 2 ^ 56)
   left_room t xs ys left n es h e w low =
       let l = h es w in
       let p = parts s xs ys left l.0 e l.1 in
       let few = l.5 in
-      let turned : turns l.0 ≡ turns p.first + turns p.rest = ap turns p.whole ∙ turns_append p.first p.rest in
-      (p.first, p.first_walked, omega (arith, few, low, turned))
+      let parted : length (atoms_left l.0) ≡ length (atoms_left p.first) + length (atoms_left p.rest) = ap (λ gs. length (atoms_left gs)) p.whole ∙ left_parts p.first p.rest in
+      (p.first, p.first_walked, omega (arith, few, low, parted))
 
   -- none is left
-  pub left_last : (t : Heap) (left : List ℕ) (n : ℕ) → left ≡ [] → ItemsLeft t left n → (es : List Event) → ItemsWalked s all es → GoOn s t count n (links_met es) × (n ≤ count + most_links * turns es)
+  pub left_last : (t : Heap) (left : List ℕ) (n : ℕ) → left ≡ [] → ItemsLeft t left n → (es : List Event) → ItemsWalked s all es → GoOn s t count n (links_met es) × (n ≤ count + most_links * length (atoms_left es))
   left_last t left n e h es w =
       let l = h es w in
       let nothing : l.0 ≡ [] = walked_none s l.0 (subst (λ xs. ItemsWalked s xs l.0) e l.1) in
@@ -133,24 +130,24 @@ module _ (s : Heap) (count : ℕ) (all : List ℕ) where
 -- Items by `first` and `next`.
 
 -- the walk over the next item
-pub next_walk : (s t : Heap) (count : ℕ) (all left rest : List ℕ) (a n : ℕ) (es : List Event) → Remarks s t → ItemsLeft s count all t left n → left ≡ a ∷ rest → ItemsWalked s all es → count + most_links * turns es < 2 ^ 64
-    → (ws : List Event) × WalkMeets t a 0 ws × (n + most_links * turns ws < 2 ^ 64)
+pub next_walk : (s t : Heap) (count : ℕ) (all left rest : List ℕ) (a n : ℕ) (es : List Event) → Remarks s t → ItemsLeft s count all t left n → left ≡ a ∷ rest → ItemsWalked s all es → count + most_links * length (atoms_left es) < 2 ^ 56
+    → (ws : List Event) × WalkMeets t a 0 ws × (n + most_links * length (atoms_left ws) < 2 ^ 56)
 next_walk s t count all left rest a n es r h e w low =
     let room = left_room s count all t (a ∷ []) rest left n es h e w low in
     let one = one_item s a (a ∷ []) room.0 refl room.1 in
-    let turned : turns room.0 ≡ turns one.0 = ap turns (one.2 ∙ append-nil one.0) in
+    let parted : length (atoms_left room.0) ≡ length (atoms_left one.0) = ap (λ gs. length (atoms_left gs)) (one.2 ∙ append-nil one.0) in
     let few = room.2 in
-    (one.0, walk_same s t r a 0 one.0 one.1, omega (arith, few, turned))
+    (one.0, walk_same s t r a 0 one.0 one.1, omega (arith, few, parted))
 
 -- the links of one item more have their numbers
 pub next_done : (s t u : Heap) (count : ℕ) (all left rest : List ℕ) (a n m : ℕ) → Remarks s t → ItemsLeft s count all t left n → left ≡ a ∷ rest
-    → ((ws : List Event) → WalkMeets t a 0 ws → GoOn t u n m (links_met ws)) → ((ws : List Event) → WalkMeets t a 0 ws → m ≤ n + most_links * turns ws) → ItemsLeft s count all u rest m
+    → ((ws : List Event) → WalkMeets t a 0 ws → GoOn t u n m (links_met ws)) → ((ws : List Event) → WalkMeets t a 0 ws → m ≤ n + most_links * length (atoms_left ws)) → ItemsLeft s count all u rest m
 next_done s t u count all left rest a n m r h e go few =
     left_more s count all t u (a ∷ []) rest left n m r h e (λ ws w.
     let one = one_item s a (a ∷ []) ws refl w in
     let same : one.0 ≡ ws = sym (one.2 ∙ append-nil one.0) in
     let walk = walk_same s t r a 0 one.0 one.1 in
-    subst (λ es. GoOn t u n m (links_met es) × (m ≤ n + most_links * turns es)) same (go one.0 walk, few one.0 walk))
+    subst (λ es. GoOn t u n m (links_met es) × (m ≤ n + most_links * length (atoms_left es))) same (go one.0 walk, few one.0 walk))
 
 -- Membranes.
 
@@ -158,12 +155,12 @@ next_done s t u count all left rest a n m r h e go few =
 pub record Room (s : Heap) (f : Forest) : Type 0 where
   pub events : List Event
   pub walked : ItemsWalked s (printed_items s (flat f)) events
-  pub few : 0 + most_links * turns events < 2 ^ 64
+  pub few : 0 + most_links * length (atoms_left events) < 2 ^ 56
 
-few_numbers : (k : ℕ) → k ≤ 2 ^ 49 → 0 + most_links * k < 2 ^ 64
+few_numbers : (k : ℕ) → k ≤ 2 ^ 48 → 0 + most_links * k < 2 ^ 56
 few_numbers k l = omega (arith, l)
 
--- as many turns are left as a heap may need
+-- the atoms that are printed have few ports
 pub room : (s : Heap) → Valid s → AtMost (2 ^ 48) s → IsPrinted s → (f : Forest) → IsTree s f → Room s f
 room s valid most printed f tree =
     let solid = heaps_have_solids s valid in
@@ -173,7 +170,7 @@ room s valid most printed f tree =
     record {
       events = w.0;
       walked = w.1;
-      few = few_numbers (turns w.0) (few_item_turns s valid.sound.paired most (printed_items s (flat f)) w.0 (printed_items_once s valid.sound (flat f) tree.once) (items_atoms s valid.sound (flat f)) w.1);
+      few = few_numbers (length (atoms_left w.0)) (few_items_left s valid.sound.paired most (printed_items s (flat f)) w.0 (printed_items_once s valid.sound (flat f) tree.once) (items_atoms s valid.sound (flat f)) w.1);
     }
 
 -- the items of all membranes are done: the marks tell numbers of the links that are printed

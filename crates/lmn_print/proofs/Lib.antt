@@ -3,7 +3,7 @@ mod ClearedMarks
 mod WalkedLinks
 mod RenamedForests
 mod FirstNumbers
-mod FewItemTurns
+mod FewItemAtoms
 mod ItemsOnce
 mod ItemsLeft
 mod ItemRows

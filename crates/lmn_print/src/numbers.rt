@@ -1,10 +1,10 @@
 //! The numbers of the links that are printed, in the marks of their ports: each mark is greater by one.
-ghost use Rattle.std.specs.Prelude.{◌<◌, ◌≤◌, ◌+◌, ◌*◌, ◌^◌, ℕ, List};
+ghost use Rattle.std.specs.Prelude.{◌<◌, ◌≤◌, ◌+◌, ◌*◌, ◌^◌, ℕ, List, length};
 ghost use Rattle.lmn_base.specs.Limits.{most_links};
 ghost use Rattle.lmn_base.specs.declared.rule.RuleTree.{RuleTree};
 ghost use Rattle.lmn_congruence.specs.Rules.{Name};
 ghost use Rattle.lmn_print_folded.specs.Terms.{FoldedMembranes};
-ghost use Rattle.lmn_print_folding.specs.Marks.{Event, links_met, turns};
+ghost use Rattle.lmn_print_folding.specs.Marks.{Event, atoms_left, links_met};
 ghost use Rattle.lmn_store_heap.specs.Heap.{IsMem, PortsUnmarked};
 ghost use Rattle.lmn_store_heap.specs.Solid.{IsNaming};
 ghost use Rattle.lmn_store_heap.specs.Sound.{Forest, IsTree, Valid};
@@ -41,10 +41,10 @@ pub(crate) fn number_printed<S: LinkStore>(store: &mut S)
 fn number_items<S: LinkStore>(store: &mut S, mem: S::Mem, count: u64) -> u64
     requires valid { Valid (S.heap store.old) }
     requires mem { IsMem (S.heap store.old) (S.mem_id mem) }
-    requires walk { (es : List Event) × ItemsWalked (S.heap store.old) (items_in (S.heap store.old) (S.mem_id mem)) es × (count + most_links * turns es < 2 ^ 64) }
+    requires walk { (es : List Event) × ItemsWalked (S.heap store.old) (items_in (S.heap store.old) (S.mem_id mem)) es × (count + most_links * length (atoms_left es) < 2 ^ 56) }
     ensures marks { Remarks (S.heap store.old) (S.heap store.new) }
     ensures numbers { (es : List Event) → ItemsWalked (S.heap store.old) (items_in (S.heap store.old) (S.mem_id mem)) es → GoOn (S.heap store.old) (S.heap store.new) count result (links_met es) }
-    ensures few { (es : List Event) → ItemsWalked (S.heap store.old) (items_in (S.heap store.old) (S.mem_id mem)) es → result ≤ count + most_links * turns es }
+    ensures few { (es : List Event) → ItemsWalked (S.heap store.old) (items_in (S.heap store.old) (S.mem_id mem)) es → result ≤ count + most_links * length (atoms_left es) }
 {
     let _root = store.root();
     let mut numbered = count;
