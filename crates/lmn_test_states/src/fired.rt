@@ -7,6 +7,9 @@ use lmn_store_trait::LinkStore;
 use std::alloc::AllocGlobal;
 use std::process::Abort;
 
+// Marks of ports are below this.
+const SMALL: u64 = 1 << 56;
+
 /// A call that changes a store, on items by their numbers.
 #[derive(Clone, Copy)]
 enum Step {
@@ -120,6 +123,7 @@ fn mark(rt: &impl Abort, store: &mut SlabStore, step: Step) {
     match step {
         Step::SetMark(a, slot, v) => {
             assert!(rt; store.has_port(a, slot));
+            assert!(rt; v < SMALL);
             store.set_mark(a, slot, v);
         }
         Step::SetMemMark(m, v) => {
