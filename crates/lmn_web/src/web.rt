@@ -393,10 +393,11 @@ impl Web {
         }
     }
 
-    /// A mark is another.
+    /// A mark is another. The mark of a slot other than 0 is below 2^56.
     pub fn set_mark(&mut self, c: Cell, slot: u8, v: u64)
         requires there { IsSome (web_by self.old (cell_id c)) }
         requires slot { slot ≤ arity_at (web_by self.old) (cell_id c) }
+        requires small { slot ≢ 0 → v < 2 ^ 56 }
         ensures { web_by self.new ≡ alter (web_by self.old) (cell_id c) (option_map (with_mark slot v)) }
     {
         if slot == 0 {
