@@ -1,5 +1,5 @@
 //! The calls of a web whose membranes may have keepers.
-ghost use Rattle.std.specs.Prelude.{◌≡◌, ◌≢◌, ◌⊎◌, ◌==◌, ◌<◌, ◌≤◌, ℕ, List, [], IfSome, IsSome, None, Some, MatchResult, length, slice_index_or};
+ghost use Rattle.std.specs.Prelude.{◌≡◌, ◌≢◌, ◌⊎◌, ◌==◌, ◌<◌, ◌≤◌, ◌^◌, ℕ, List, [], IfSome, IsSome, None, Some, MatchResult, length, slice_index_or};
 ghost use Rattle.std.specs.Option.{option_map};
 ghost use Rattle.lmn_base.specs.Lists.{In};
 ghost use Rattle.lmn_store_heap.specs.Heap.{alter};
@@ -325,10 +325,11 @@ impl MergingWeb {
         self.web.mark(c, slot)
     }
 
-    /// A mark is another.
+    /// A mark is another. The mark of a slot other than 0 is below 2^56.
     pub fn set_mark(&mut self, c: Cell, slot: u8, v: u64)
         requires there { IsSome (merged_by self.old (cell_id c)) }
         requires slot { slot ≤ arity_at (merged_by self.old) (cell_id c) }
+        requires small { slot ≢ 0 → v < 2 ^ 56 }
         ensures { merged_by self.new ≡ alter (merged_by self.old) (cell_id c) (option_map (with_mark slot v)) }
     {
         self.web.set_mark(c, slot, v);
