@@ -4,11 +4,11 @@ use Rattle.std.proofs.lemmas.Bool.{cases_eq}
 use Rattle.std.specs.Option.{option_map}
 use denote.RawPtr.{Ptr, null_ptr}
 use Rattle.lmn_web_cells.specs.Rows.{Item, blank, link, number, halves_in, with_half, half_at, with_half_at, Row, items_in, with_items, place_ptr}
-use Rattle.lmn_web_cells.specs.Cells.{HeldPort, HeldCell, pointer_to, link_to, link_items, number_items, first_items, cell_items, cell_by, cells_by, IsShaped, IsLaid, AreLaid, HaveLinks, links_of, numbers_of, ports_of, no_port, with_link, with_number, with_to, with_port, with_mark}
+use Rattle.lmn_web_cells.specs.Cells.{HeldPort, HeldCell, pointer_to, link_to, link_items, first_items, cell_items, cell_by, cells_by, IsShaped, IsLaid, AreLaid, HaveLinks, links_of, numbers_of, ports_of, no_port, with_link, with_number, with_to, with_port, with_mark}
 use Rattle.lmn_store_heap.specs.Heap.{alter}
 use Rattle.lmn_store_heap.proofs.Listing.{alter_at, alter_away}
 use Rattle.lmn_web_cells.specs.CellIds.{IsLink, led_by}
-use Rattle.lmn_web_cells.proofs.CellWords.{place_again, behind_links, some_numbers, link_at, set_link_at, cell_back, ports_at, set_ports_at, port_word_at, set_to_at, set_port_at, set_mark_at, word_count, small_number_at, set_small_number_at, first_number_at, set_first_number_at, last_number_word, set_last_number_word}
+use Rattle.lmn_web_cells.proofs.CellWords.{place_again, end_of, some_numbers, one_port, cell_back, ports_at, set_ports_at, port_word_at, set_to_at, set_port_at, set_mark_at, word_count, small_number_at, set_small_number_at, first_number_at, set_first_number_at, last_number_word, set_last_number_word, first_link_at, set_first_link_at, last_link_word, set_last_link_word}
 pub use Rattle.lmn_web_rows.proofs.Lookups.{if_yes, items_same, items_away}
 
 -- what isn't none in a list is one of it
@@ -46,12 +46,19 @@ have_links rows laid a there = let f = found rows a laid there in ap (λ (o : Op
 -- Links
 
 -- a word that leads somewhere
-pub word_is : (rows : List Row) (b k : ℕ) (laid : AreLaid rows) (there : IsSome (cells_by rows b)) → k < 8
+pub word_is : (rows : List Row) (b k : ℕ) (laid : AreLaid rows) (there : IsSome (cells_by rows b)) → k < 7
     → get_or (items_in rows b) k blank ≡ link_to (get_or (links_of (cells_by rows b)) k None)
 word_is rows b k laid there low =
     let f = found rows b laid there in
-    ap (λ is. get_or is k blank) f.words ∙ link_at f.cell.links k (behind_links f.cell) (subst (λ n. k < n) (sym f.shaped.links) low)
-    ∙ ap (λ (o : Option HeldCell). link_to (get_or (links_of o) k None)) (sym f.is)
+    ap (λ is. get_or is k blank) f.words ∙ first_link_at f.cell f.shaped k low ∙ ap (λ (o : Option HeldCell). link_to (get_or (links_of o) k None)) (sym f.is)
+
+-- the last one of a membrane's
+pub last_word_is : (rows : List Row) (b : ℕ) (laid : AreLaid rows) (there : IsSome (cells_by rows b)) → length (numbers_of (cells_by rows b)) ≡ 8
+    → get_or (items_in rows b) 17 blank ≡ link_to (get_or (links_of (cells_by rows b)) 7 None)
+last_word_is rows b laid there eight =
+    let f = found rows b laid there in
+    ap (λ is. get_or is 17 blank) f.words ∙ last_link_word f.cell f.shaped (sym (ap (λ (o : Option HeldCell). length (numbers_of o)) f.is) ∙ eight)
+    ∙ ap (λ (o : Option HeldCell). link_to (get_or (links_of o) 7 None)) (sym f.is)
 
 -- the pointer in a word, if it is one
 abbrev pointer_in : Item → Ptr
@@ -86,10 +93,10 @@ number_read i m n e r = ap number_in (sym r ∙ e)
 
 -- the half of one of the small numbers of a cell
 pub small_is : (rows : List Row) (b k : ℕ) (laid : AreLaid rows) (there : IsSome (cells_by rows b)) → k < 2
-    → half_at (items_in rows b) (16 + k) ≡ Some (get_or (numbers_of (cells_by rows b)) k 0)
+    → half_at (items_in rows b) (14 + k) ≡ Some (get_or (numbers_of (cells_by rows b)) k 0)
 small_is rows b k laid there low =
     let f = found rows b laid there in
-    ap (λ is. half_at is (16 + k)) f.words ∙ small_number_at f.cell f.shaped k low ∙ ap (λ (o : Option HeldCell). Some (get_or (numbers_of o) k 0)) (sym f.is)
+    ap (λ is. half_at is (14 + k)) f.words ∙ small_number_at f.cell f.shaped k low ∙ ap (λ (o : Option HeldCell). Some (get_or (numbers_of o) k 0)) (sym f.is)
 
 -- it is below 2 ^ 32
 pub small_fits : (rows : List Row) (b k : ℕ) (laid : AreLaid rows) (there : IsSome (cells_by rows b)) → k < 2 → get_or (numbers_of (cells_by rows b)) k 0 < 2 ^ 32
@@ -97,43 +104,43 @@ small_fits rows b k laid there low = let f = found rows b laid there in subst (�
 
 -- the word of one of the two others
 pub number_is : (rows : List Row) (b k : ℕ) (laid : AreLaid rows) (there : IsSome (cells_by rows b)) → 2 ≤ k → k < 6
-    → get_or (items_in rows b) (8 + k - 1) blank ≡ number (get_or (numbers_of (cells_by rows b)) k 0)
+    → get_or (items_in rows b) (7 + k - 1) blank ≡ number (get_or (numbers_of (cells_by rows b)) k 0)
 number_is rows b k laid there high low =
     let f = found rows b laid there in
-    ap (λ is. get_or is (8 + k - 1) blank) f.words ∙ first_number_at f.cell f.shaped k high low ∙ ap (λ (o : Option HeldCell). number (get_or (numbers_of o) k 0)) (sym f.is)
+    ap (λ is. get_or is (7 + k - 1) blank) f.words ∙ first_number_at f.cell f.shaped k high low ∙ ap (λ (o : Option HeldCell). number (get_or (numbers_of o) k 0)) (sym f.is)
 
 -- that of one of the last numbers of a membrane
 pub count_is : (rows : List Row) (b k : ℕ) (laid : AreLaid rows) (there : IsSome (cells_by rows b)) → length (numbers_of (cells_by rows b)) ≡ 8 → 6 ≤ k → k < 8
-    → get_or (items_in rows b) (16 + k - 6) blank ≡ number (get_or (numbers_of (cells_by rows b)) k 0)
+    → get_or (items_in rows b) (15 + k - 6) blank ≡ number (get_or (numbers_of (cells_by rows b)) k 0)
 count_is rows b k laid there eight h low =
     let f = found rows b laid there in
-    ap (λ is. get_or is (16 + k - 6) blank) f.words ∙ last_number_word f.cell f.shaped (sym (ap (λ (o : Option HeldCell). length (numbers_of o)) f.is) ∙ eight) k h low
+    ap (λ is. get_or is (15 + k - 6) blank) f.words ∙ last_number_word f.cell f.shaped (sym (ap (λ (o : Option HeldCell). length (numbers_of o)) f.is) ∙ eight) k h low
     ∙ ap (λ (o : Option HeldCell). number (get_or (numbers_of o) k 0)) (sym f.is)
 
 -- Ports
 
 -- the word that says where a port leads
 pub to_is : (rows : List Row) (b j : ℕ) (laid : AreLaid rows) (there : IsSome (cells_by rows b)) → j < length (ports_of (cells_by rows b))
-    → get_or (items_in rows b) (13 + (j * 3 + 0)) blank ≡ link_to (get_or (ports_of (cells_by rows b)) j no_port).to
+    → get_or (items_in rows b) (12 + (j * 3 + 0)) blank ≡ link_to (get_or (ports_of (cells_by rows b)) j no_port).to
 to_is rows b j laid there low =
     let f = found rows b laid there in
-    ap (λ is. get_or is (13 + (j * 3 + 0)) blank) f.words ∙ ports_at f.cell f.shaped (j * 3 + 0) ∙ port_word_at f.cell.ports j 0 (number_items (drop 6 f.cell.numbers)) (omega arith) (subst (λ (o : Option HeldCell). j < length (ports_of o)) f.is low)
+    ap (λ is. get_or is (12 + (j * 3 + 0)) blank) f.words ∙ ports_at f.cell f.shaped (j * 3 + 0) ∙ port_word_at f.cell.ports j 0 (end_of f.cell) (omega arith) (subst (λ (o : Option HeldCell). j < length (ports_of o)) f.is low)
     ∙ ap (λ (o : Option HeldCell). link_to (get_or (ports_of o) j no_port).to) (sym f.is)
 
 -- the word of the port there
 pub port_is : (rows : List Row) (b j : ℕ) (laid : AreLaid rows) (there : IsSome (cells_by rows b)) → j < length (ports_of (cells_by rows b))
-    → get_or (items_in rows b) (13 + (j * 3 + 1)) blank ≡ number (get_or (ports_of (cells_by rows b)) j no_port).port
+    → get_or (items_in rows b) (12 + (j * 3 + 1)) blank ≡ number (get_or (ports_of (cells_by rows b)) j no_port).port
 port_is rows b j laid there low =
     let f = found rows b laid there in
-    ap (λ is. get_or is (13 + (j * 3 + 1)) blank) f.words ∙ ports_at f.cell f.shaped (j * 3 + 1) ∙ port_word_at f.cell.ports j 1 (number_items (drop 6 f.cell.numbers)) (omega arith) (subst (λ (o : Option HeldCell). j < length (ports_of o)) f.is low)
+    ap (λ is. get_or is (12 + (j * 3 + 1)) blank) f.words ∙ ports_at f.cell f.shaped (j * 3 + 1) ∙ port_word_at f.cell.ports j 1 (end_of f.cell) (omega arith) (subst (λ (o : Option HeldCell). j < length (ports_of o)) f.is low)
     ∙ ap (λ (o : Option HeldCell). number (get_or (ports_of o) j no_port).port) (sym f.is)
 
 -- the word of the mark of a port
 pub mark_is : (rows : List Row) (b j : ℕ) (laid : AreLaid rows) (there : IsSome (cells_by rows b)) → j < length (ports_of (cells_by rows b))
-    → get_or (items_in rows b) (13 + (j * 3 + 2)) blank ≡ number (get_or (ports_of (cells_by rows b)) j no_port).mark
+    → get_or (items_in rows b) (12 + (j * 3 + 2)) blank ≡ number (get_or (ports_of (cells_by rows b)) j no_port).mark
 mark_is rows b j laid there low =
     let f = found rows b laid there in
-    ap (λ is. get_or is (13 + (j * 3 + 2)) blank) f.words ∙ ports_at f.cell f.shaped (j * 3 + 2) ∙ port_word_at f.cell.ports j 2 (number_items (drop 6 f.cell.numbers)) (omega arith) (subst (λ (o : Option HeldCell). j < length (ports_of o)) f.is low)
+    ap (λ is. get_or is (12 + (j * 3 + 2)) blank) f.words ∙ ports_at f.cell f.shaped (j * 3 + 2) ∙ port_word_at f.cell.ports j 2 (end_of f.cell) (omega arith) (subst (λ (o : Option HeldCell). j < length (ports_of o)) f.is low)
     ∙ ap (λ (o : Option HeldCell). number (get_or (ports_of o) j no_port).mark) (sym f.is)
 
 -- fewer than 2 ^ 16 ports, and their words are below 2 ^ 32
@@ -147,28 +154,28 @@ pub record Changed (rows : List Row) (b k : ℕ) (i : Item) (g : HeldCell → He
   pub laid : AreLaid (with_items b (set (items_in rows b) k i) rows)
   pub cells : cells_by (with_items b (set (items_in rows b) k i) rows) ≡ alter (cells_by rows) b (option_map g)
 
--- as many numbers and ports as before
-same_count : (ns ms : List ℕ) (ps qs : List HeldPort) → length ms ≡ length ns → length qs ≡ length ps → (length ns ≡ 6) ⊎ ((length ns ≡ 8) × (length ps ≡ 1)) → (length ms ≡ 6) ⊎ ((length ms ≡ 8) × (length qs ≡ 1))
-same_count ns ms ps qs n p (inl six) = inl (n ∙ six)
-same_count ns ms ps qs n p (inr eight) = inr (n ∙ eight.0, p ∙ eight.1)
+-- as many numbers and ports as before, and an atom's last link leads nowhere
+same_count : (ns ms : List ℕ) (ps qs : List HeldPort) (x y : Option ℕ) → length ms ≡ length ns → length qs ≡ length ps → y ≡ x → ((length ns ≡ 6) × (x ≡ None)) ⊎ ((length ns ≡ 8) × (length ps ≡ 1)) → ((length ms ≡ 6) × (y ≡ None)) ⊎ ((length ms ≡ 8) × (length qs ≡ 1))
+same_count ns ms ps qs x y n p l (inl six) = inl (n ∙ six.0, l ∙ six.1)
+same_count ns ms ps qs x y n p l (inr eight) = inr (n ∙ eight.0, p ∙ eight.1)
 
 -- also one of the rows
 pub six_there : (rows : List Row) (b : ℕ) → AreLaid rows → IsSome (cells_by rows b) → 6 ≤ length (numbers_of (cells_by rows b))
 six_there rows b laid there = let f = found rows b laid there in subst (λ (o : Option HeldCell). 6 ≤ length (numbers_of o)) (sym f.is) (some_numbers f.cell f.shaped)
 
 -- a cell has the words of its links and first numbers
-pub words_there : (rows : List Row) (b : ℕ) → AreLaid rows → IsSome (cells_by rows b) → 13 ≤ length (items_in rows b)
-words_there rows b laid there = let f = found rows b laid there in subst (λ is. 13 ≤ length is) (sym f.words) (let n = word_count f.cell f.shaped in let some = some_numbers f.cell f.shaped in omega (arith, n, some))
+pub words_there : (rows : List Row) (b : ℕ) → AreLaid rows → IsSome (cells_by rows b) → 12 ≤ length (items_in rows b)
+words_there rows b laid there = let f = found rows b laid there in subst (λ is. 12 ≤ length is) (sym f.words) (let n = word_count f.cell f.shaped in omega (arith, n))
 
 -- both halves of a word of small numbers are there
-pub halves_there : (rows : List Row) (b k : ℕ) → AreLaid rows → IsSome (cells_by rows b) → k < 2 → (16 + k) % 2 < length (halves_in (get_or (items_in rows b) ((16 + k) / 2) blank))
-halves_there rows b k laid there low = let f = found rows b laid there in written_there (halves_in (get_or (items_in rows b) ((16 + k) / 2) blank)) ((16 + k) % 2) (get_or f.cell.numbers k 0) (ap (λ is. half_at is (16 + k)) f.words ∙ small_number_at f.cell f.shaped k low)
+pub halves_there : (rows : List Row) (b k : ℕ) → AreLaid rows → IsSome (cells_by rows b) → k < 2 → (14 + k) % 2 < length (halves_in (get_or (items_in rows b) ((14 + k) / 2) blank))
+halves_there rows b k laid there low = let f = found rows b laid there in written_there (halves_in (get_or (items_in rows b) ((14 + k) / 2) blank)) ((14 + k) % 2) (get_or f.cell.numbers k 0) (ap (λ is. half_at is (14 + k)) f.words ∙ small_number_at f.cell f.shaped k low)
 
 -- a cell has the words of its ports
-pub port_words_there : (rows : List Row) (b j w : ℕ) → AreLaid rows → IsSome (cells_by rows b) → j < length (ports_of (cells_by rows b)) → w < 3 → 13 + (j * 3 + w) < length (items_in rows b)
+pub port_words_there : (rows : List Row) (b j w : ℕ) → AreLaid rows → IsSome (cells_by rows b) → j < length (ports_of (cells_by rows b)) → w < 3 → 12 + (j * 3 + w) < length (items_in rows b)
 port_words_there rows b j w laid there low h =
     let f = found rows b laid there in let l : j < length f.cell.ports = subst (λ (o : Option HeldCell). j < length (ports_of o)) f.is low in
-    subst (λ is. 13 + (j * 3 + w) < length is) (sym f.words) (let n = word_count f.cell f.shaped in let some = some_numbers f.cell f.shaped in omega (arith, n, l, h, some))
+    subst (λ is. 12 + (j * 3 + w) < length is) (sym f.words) (let n = word_count f.cell f.shaped in omega (arith, n, l, h))
 
 -- one word of a cell is written: what the rows stand for then
 pub changes : (rows : List Row) (b k : ℕ) (i : Item) (g : HeldCell → HeldCell) (laid : AreLaid rows) (there : IsSome (cells_by rows b))
@@ -192,12 +199,25 @@ changes rows b k i g laid there by =
     record { laid = laid'; cells = λ t j. cells' j t }
 
 -- a link
-pub link_changes : (rows : List Row) (b k : ℕ) (x : Option ℕ) (laid : AreLaid rows) (there : IsSome (cells_by rows b)) → k < 8 → Changed rows b k (link_to x) (with_link k x)
+pub link_changes : (rows : List Row) (b k : ℕ) (x : Option ℕ) (laid : AreLaid rows) (there : IsSome (cells_by rows b)) → k < 7 → Changed rows b k (link_to x) (with_link k x)
 link_changes rows b k x laid there low = changes rows b k (link_to x) (with_link k x) laid there
     (λ c s e. (
-      set_link_at c.links k x (behind_links c) (subst (λ n. k < n) (sym s.links) low),
-      record { links = length-set c.links k x ∙ s.links; numbers = s.numbers; small = s.small; few = s.few },
+      set_first_link_at c s k x low,
+      record {
+        links = length-set c.links k x ∙ s.links;
+        numbers = same_count c.numbers c.numbers c.ports c.ports (get_or c.links 7 None) (get_or (set c.links k x) 7 None) refl refl (get_or-set_other c.links k 7 x None (λ (w : 7 ≡ k). absurd (omega (arith, w, low)))) s.numbers;
+        small = s.small;
+        few = s.few;
+      },
     ))
+
+-- the last link of a membrane
+pub last_link_changes : (rows : List Row) (b : ℕ) (x : Option ℕ) (laid : AreLaid rows) (there : IsSome (cells_by rows b)) → length (numbers_of (cells_by rows b)) ≡ 8 → Changed rows b 17 (link_to x) (with_link 7 x)
+last_link_changes rows b x laid there eight = changes rows b 17 (link_to x) (with_link 7 x) laid there
+    (λ c s e. (let own : length c.numbers ≡ 8 = sym (ap (λ (o : Option HeldCell). length (numbers_of o)) e) ∙ eight in (
+      set_last_link_word c s own x,
+      record { links = length-set c.links 7 x ∙ s.links; numbers = inr (own, one_port c s own); small = s.small; few = s.few },
+    )))
 
 -- small numbers stay small where one is another
 small_set : (ns : List ℕ) (k n : ℕ) → ((j : ℕ) → j < 2 → get_or ns j 0 < 2 ^ 32) → k < length ns → (k < 2 → n < 2 ^ 32) → (j : ℕ) → j < 2 → get_or (set ns k n) j 0 < 2 ^ 32
@@ -212,54 +232,54 @@ pub record HalfChanged (rows : List Row) (b j n : ℕ) (g : HeldCell → HeldCel
   pub cells : cells_by (with_items b (with_half_at j n (items_in rows b)) rows) ≡ alter (cells_by rows) b (option_map g)
 
 -- one of the small numbers
-pub small_changes : (rows : List Row) (b k n : ℕ) (laid : AreLaid rows) (there : IsSome (cells_by rows b)) → k < 2 → n < 2 ^ 32 → HalfChanged rows b (16 + k) n (with_number k n)
+pub small_changes : (rows : List Row) (b k n : ℕ) (laid : AreLaid rows) (there : IsSome (cells_by rows b)) → k < 2 → n < 2 ^ 32 → HalfChanged rows b (14 + k) n (with_number k n)
 small_changes rows b k n laid there low fits =
-    let f = found rows b laid there in let c = f.cell in let s = f.shaped in let six = some_numbers c s in let i = with_half ((16 + k) % 2) n (get_or (items_in rows b) ((16 + k) / 2) blank) in
-    let h = changes rows b ((16 + k) / 2) i (with_number k n) laid there
+    let f = found rows b laid there in let c = f.cell in let s = f.shaped in let six = some_numbers c s in let i = with_half ((14 + k) % 2) n (get_or (items_in rows b) ((14 + k) / 2) blank) in
+    let h = changes rows b ((14 + k) / 2) i (with_number k n) laid there
     (λ d t e. (
-      ap (λ (is : List Item). set (cell_items d) ((16 + k) / 2) (with_half ((16 + k) % 2) n (get_or is ((16 + k) / 2) blank))) (f.words ∙ ap cell_items (same_cell (sym f.is ∙ e))) ∙ set_small_number_at d t k n low,
-      record { links = t.links; numbers = same_count d.numbers (set d.numbers k n) d.ports d.ports (length-set d.numbers k n) refl t.numbers; small = small_set d.numbers k n t.small (let m = some_numbers d t in omega (arith, m, low)) (λ _. fits); few = t.few },
+      ap (λ (is : List Item). set (cell_items d) ((14 + k) / 2) (with_half ((14 + k) % 2) n (get_or is ((14 + k) / 2) blank))) (f.words ∙ ap cell_items (same_cell (sym f.is ∙ e))) ∙ set_small_number_at d t k n low,
+      record { links = t.links; numbers = same_count d.numbers (set d.numbers k n) d.ports d.ports (get_or d.links 7 None) (get_or d.links 7 None) (length-set d.numbers k n) refl refl t.numbers; small = small_set d.numbers k n t.small (let m = some_numbers d t in omega (arith, m, low)) (λ _. fits); few = t.few },
     )) in
     record { laid = h.laid; cells = h.cells }
 
 -- one of the first numbers
-pub number_changes : (rows : List Row) (b k n : ℕ) (laid : AreLaid rows) (there : IsSome (cells_by rows b)) → 2 ≤ k → k < 6 → Changed rows b (8 + k - 1) (number n) (with_number k n)
-number_changes rows b k n laid there high low = changes rows b (8 + k - 1) (number n) (with_number k n) laid there
+pub number_changes : (rows : List Row) (b k n : ℕ) (laid : AreLaid rows) (there : IsSome (cells_by rows b)) → 2 ≤ k → k < 6 → Changed rows b (7 + k - 1) (number n) (with_number k n)
+number_changes rows b k n laid there high low = changes rows b (7 + k - 1) (number n) (with_number k n) laid there
     (λ c s e. (
       set_first_number_at c s k n high low,
-      record { links = s.links; numbers = same_count c.numbers (set c.numbers k n) c.ports c.ports (length-set c.numbers k n) refl s.numbers; small = small_set c.numbers k n s.small (let m = some_numbers c s in omega (arith, m, low)) (λ l. absurd (omega (arith, l, high))); few = s.few },
+      record { links = s.links; numbers = same_count c.numbers (set c.numbers k n) c.ports c.ports (get_or c.links 7 None) (get_or c.links 7 None) (length-set c.numbers k n) refl refl s.numbers; small = small_set c.numbers k n s.small (let m = some_numbers c s in omega (arith, m, low)) (λ l. absurd (omega (arith, l, high))); few = s.few },
     ))
 
 -- one of the last numbers of a membrane
-pub count_changes : (rows : List Row) (b k n : ℕ) (laid : AreLaid rows) (there : IsSome (cells_by rows b)) → length (numbers_of (cells_by rows b)) ≡ 8 → 6 ≤ k → k < 8 → Changed rows b (16 + k - 6) (number n) (with_number k n)
-count_changes rows b k n laid there eight h low = changes rows b (16 + k - 6) (number n) (with_number k n) laid there
+pub count_changes : (rows : List Row) (b k n : ℕ) (laid : AreLaid rows) (there : IsSome (cells_by rows b)) → length (numbers_of (cells_by rows b)) ≡ 8 → 6 ≤ k → k < 8 → Changed rows b (15 + k - 6) (number n) (with_number k n)
+count_changes rows b k n laid there eight h low = changes rows b (15 + k - 6) (number n) (with_number k n) laid there
     (λ c s e. (
       set_last_number_word c s (sym (ap (λ (o : Option HeldCell). length (numbers_of o)) e) ∙ eight) k n h low,
-      record { links = s.links; numbers = same_count c.numbers (set c.numbers k n) c.ports c.ports (length-set c.numbers k n) refl s.numbers; small = small_set c.numbers k n s.small (let e8 = sym (ap (λ (o : Option HeldCell). length (numbers_of o)) e) ∙ eight in omega (arith, e8, low)) (λ l. absurd (omega (arith, l, h))); few = s.few },
+      record { links = s.links; numbers = same_count c.numbers (set c.numbers k n) c.ports c.ports (get_or c.links 7 None) (get_or c.links 7 None) (length-set c.numbers k n) refl refl s.numbers; small = small_set c.numbers k n s.small (let e8 = sym (ap (λ (o : Option HeldCell). length (numbers_of o)) e) ∙ eight in omega (arith, e8, low)) (λ l. absurd (omega (arith, l, h))); few = s.few },
     ))
 
 -- where a port leads
-pub to_changes : (rows : List Row) (b j : ℕ) (x : Option ℕ) (laid : AreLaid rows) (there : IsSome (cells_by rows b)) → j < length (ports_of (cells_by rows b)) → Changed rows b (13 + (j * 3 + 0)) (link_to x) (with_to j x)
-to_changes rows b j x laid there low = changes rows b (13 + (j * 3 + 0)) (link_to x) (with_to j x) laid there
+pub to_changes : (rows : List Row) (b j : ℕ) (x : Option ℕ) (laid : AreLaid rows) (there : IsSome (cells_by rows b)) → j < length (ports_of (cells_by rows b)) → Changed rows b (12 + (j * 3 + 0)) (link_to x) (with_to j x)
+to_changes rows b j x laid there low = changes rows b (12 + (j * 3 + 0)) (link_to x) (with_to j x) laid there
     (λ c s e. (
-      set_ports_at c s (j * 3 + 0) (link_to x) ∙ ap (λ is. link_items c.links ++ (first_items (take 6 c.numbers) ++ is)) (set_to_at c.ports j x (number_items (drop 6 c.numbers)) (subst (λ (o : Option HeldCell). j < length (ports_of o)) e low)),
-      record { links = s.links; numbers = same_count c.numbers c.numbers c.ports (set c.ports j _) refl (length-set c.ports j _) s.numbers; small = s.small; few = subst (λ n. n < 2 ^ 16) (sym (length-set c.ports j _)) s.few },
+      set_ports_at c s (j * 3 + 0) (link_to x) ∙ ap (λ is. link_items (take 7 c.links) ++ (first_items (take 6 c.numbers) ++ is)) (set_to_at c.ports j x (end_of c) (subst (λ (o : Option HeldCell). j < length (ports_of o)) e low)),
+      record { links = s.links; numbers = same_count c.numbers c.numbers c.ports (set c.ports j _) (get_or c.links 7 None) (get_or c.links 7 None) refl (length-set c.ports j _) refl s.numbers; small = s.small; few = subst (λ n. n < 2 ^ 16) (sym (length-set c.ports j _)) s.few },
     ))
 
 -- the number of the port there
-pub port_changes : (rows : List Row) (b j n : ℕ) (laid : AreLaid rows) (there : IsSome (cells_by rows b)) → j < length (ports_of (cells_by rows b)) → Changed rows b (13 + (j * 3 + 1)) (number n) (with_port j n)
-port_changes rows b j n laid there low = changes rows b (13 + (j * 3 + 1)) (number n) (with_port j n) laid there
+pub port_changes : (rows : List Row) (b j n : ℕ) (laid : AreLaid rows) (there : IsSome (cells_by rows b)) → j < length (ports_of (cells_by rows b)) → Changed rows b (12 + (j * 3 + 1)) (number n) (with_port j n)
+port_changes rows b j n laid there low = changes rows b (12 + (j * 3 + 1)) (number n) (with_port j n) laid there
     (λ c s e. (
-      set_ports_at c s (j * 3 + 1) (number n) ∙ ap (λ is. link_items c.links ++ (first_items (take 6 c.numbers) ++ is)) (set_port_at c.ports j n (number_items (drop 6 c.numbers)) (subst (λ (o : Option HeldCell). j < length (ports_of o)) e low)),
-      record { links = s.links; numbers = same_count c.numbers c.numbers c.ports (set c.ports j _) refl (length-set c.ports j _) s.numbers; small = s.small; few = subst (λ m. m < 2 ^ 16) (sym (length-set c.ports j _)) s.few },
+      set_ports_at c s (j * 3 + 1) (number n) ∙ ap (λ is. link_items (take 7 c.links) ++ (first_items (take 6 c.numbers) ++ is)) (set_port_at c.ports j n (end_of c) (subst (λ (o : Option HeldCell). j < length (ports_of o)) e low)),
+      record { links = s.links; numbers = same_count c.numbers c.numbers c.ports (set c.ports j _) (get_or c.links 7 None) (get_or c.links 7 None) refl (length-set c.ports j _) refl s.numbers; small = s.small; few = subst (λ m. m < 2 ^ 16) (sym (length-set c.ports j _)) s.few },
     ))
 
 -- the mark of a port
-pub mark_changes : (rows : List Row) (b j n : ℕ) (laid : AreLaid rows) (there : IsSome (cells_by rows b)) → j < length (ports_of (cells_by rows b)) → Changed rows b (13 + (j * 3 + 2)) (number n) (with_mark j n)
-mark_changes rows b j n laid there low = changes rows b (13 + (j * 3 + 2)) (number n) (with_mark j n) laid there
+pub mark_changes : (rows : List Row) (b j n : ℕ) (laid : AreLaid rows) (there : IsSome (cells_by rows b)) → j < length (ports_of (cells_by rows b)) → Changed rows b (12 + (j * 3 + 2)) (number n) (with_mark j n)
+mark_changes rows b j n laid there low = changes rows b (12 + (j * 3 + 2)) (number n) (with_mark j n) laid there
     (λ c s e. (
-      set_ports_at c s (j * 3 + 2) (number n) ∙ ap (λ is. link_items c.links ++ (first_items (take 6 c.numbers) ++ is)) (set_mark_at c.ports j n (number_items (drop 6 c.numbers)) (subst (λ (o : Option HeldCell). j < length (ports_of o)) e low)),
-      record { links = s.links; numbers = same_count c.numbers c.numbers c.ports (set c.ports j _) refl (length-set c.ports j _) s.numbers; small = s.small; few = subst (λ m. m < 2 ^ 16) (sym (length-set c.ports j _)) s.few },
+      set_ports_at c s (j * 3 + 2) (number n) ∙ ap (λ is. link_items (take 7 c.links) ++ (first_items (take 6 c.numbers) ++ is)) (set_mark_at c.ports j n (end_of c) (subst (λ (o : Option HeldCell). j < length (ports_of o)) e low)),
+      record { links = s.links; numbers = same_count c.numbers c.numbers c.ports (set c.ports j _) (get_or c.links 7 None) (get_or c.links 7 None) refl (length-set c.ports j _) refl s.numbers; small = s.small; few = subst (λ m. m < 2 ^ 16) (sym (length-set c.ports j _)) s.few },
     ))
 
 -- what holds after a word was written, as the row's call says it

@@ -1,27 +1,34 @@
 -- The words of a cell, read and written.
-use Rattle.std.proofs.Common.{◌≡◌, ◌≢◌, ℕ, zero, suc, ◌+◌, ◌-◌, ◌*◌, ◌/◌, ◌%◌, ◌<◌, ◌≤◌, Bool, List, [], ◌∷◌, ◌++◌, length, take, drop, get_or, set, Option, Some, None, if◌then◌else◌, refl, sym, subst, ap, ◌∙◌, inl, inr, arith}
+use Rattle.std.proofs.Common.{◌≡◌, ◌≢◌, ℕ, zero, suc, ◌+◌, ◌-◌, ◌*◌, ◌/◌, ◌%◌, ◌<◌, ◌≤◌, Bool, true, false, List, [], ◌∷◌, ◌++◌, length, take, drop, get_or, set, Option, Some, None, if◌then◌else◌, refl, sym, subst, ap, ◌∙◌, inl, inr, arith, get_or-set_same, get_or-set_other, length-take}
 use Rattle.lmn_web_cells.specs.Rows.{Item, blank, number, halves, halves_in, with_half, half_at, with_half_at, place_of, place_ptr}
-use Rattle.lmn_web_cells.specs.Cells.{HeldPort, HeldCell, link_to, link_items, number_items, first_items, port_items, cell_items, led_to, first_links, first_numbers, numbers_by, ports_by, last_numbers, cell_by, IsShaped, no_port}
-use Rattle.std.proofs.lemmas.Bool.{eq-eqb}
-use Rattle.std.proofs.lemmas.List.{nil_from_length, get_or-drop, take-append-drop, length-drop, take-set-le, drop-set-lt, drop-set-add}
-use Rattle.lmn_base.proofs.Numbers.{no_more, not_equal}
+use Rattle.lmn_web_cells.specs.Cells.{HeldPort, HeldCell, link_to, link_items, number_items, first_items, port_items, end_items, cell_items, led_to, first_links, first_numbers, numbers_by, ports_by, is_number, is_membrane, last_numbers, last_link, cell_by, IsShaped, no_port}
+use Rattle.std.proofs.Math.Seq.{take-set-lt}
+use Rattle.std.proofs.lemmas.List.{nil_from_length, get_or-drop, take-append-drop, length-drop, take-set-le, drop-set-lt, drop-set-add, get_or-take}
+use Rattle.lmn_base.proofs.Numbers.{no_more}
 
 -- Parts of the words
 
--- those behind the first numbers, and those behind the links
+-- those at the end, those behind the first numbers, and those behind the links
+abbrev pub end_of : HeldCell → List Item
+end_of c = end_items (get_or c.links 7 None) (drop 6 c.numbers)
+
 abbrev pub behind_numbers : HeldCell → List Item
-behind_numbers c = port_items c.ports ++ number_items (drop 6 c.numbers)
+behind_numbers c = port_items c.ports ++ end_of c
 
 abbrev pub behind_links : HeldCell → List Item
 behind_links c = first_items (take 6 c.numbers) ++ behind_numbers c
 
 -- a cell has six numbers at least
 pub some_numbers : (c : HeldCell) → IsShaped c → 6 ≤ length c.numbers
-some_numbers c s = elim s.numbers [ inl six ↦ omega (arith, six) | inr eight ↦ (let e = eight.0 in omega (arith, e)) ]
+some_numbers c s = elim s.numbers [ inl six ↦ (let e = six.0 in omega (arith, e)) | inr eight ↦ (let e = eight.0 in omega (arith, e)) ]
 
 -- a cell with eight numbers has one port
 pub one_port : (c : HeldCell) → IsShaped c → length c.numbers ≡ 8 → length c.ports ≡ 1
-one_port c s n = elim s.numbers [ inl six ↦ absurd (omega (arith, six, n)) | inr eight ↦ eight.1 ]
+one_port c s n = elim s.numbers [ inl six ↦ (let e = six.0 in absurd (omega (arith, e, n))) | inr eight ↦ eight.1 ]
+
+-- seven of its links stand in front
+pub seven : (c : HeldCell) → IsShaped c → length (take 7 c.links) ≡ 7
+seven c s = let e = s.links in simp length-take (omega (arith, e))
 
 -- Reading
 
@@ -78,10 +85,20 @@ past_port [] k rest e = absurd (omega (arith, e))
 past_port (p ∷ []) k rest e = ap (λ m. get_or (port_items (p ∷ []) ++ rest) m blank) (three_more k)
 past_port (p ∷ q ∷ ps) k rest e = absurd (omega (arith, e))
 
-last_number_at : (ns : List ℕ) (k : ℕ) → k < length ns → get_or (number_items ns) k blank ≡ number (get_or ns k 0)
-last_number_at [] k l = absurd (omega (arith, l))
-last_number_at (x ∷ ns) zero l = refl
-last_number_at (x ∷ ns) (suc k) l = last_number_at ns k (omega (arith, l))
+last_number_at : (ns : List ℕ) (k : ℕ) (rest : List Item) → k < length ns → get_or (number_items ns ++ rest) k blank ≡ number (get_or ns k 0)
+last_number_at [] k rest l = absurd (omega (arith, l))
+last_number_at (x ∷ ns) zero rest l = refl
+last_number_at (x ∷ ns) (suc k) rest l = last_number_at ns k rest (omega (arith, l))
+
+end_number_at : (x : Option ℕ) (ns : List ℕ) (k : ℕ) → k < length ns → get_or (end_items x ns) k blank ≡ number (get_or ns k 0)
+end_number_at x [] k l = absurd (omega (arith, l))
+end_number_at x (n ∷ ns) k l = last_number_at (n ∷ ns) k (link_to x ∷ []) l
+
+end_link_at : (x : Option ℕ) (ns : List ℕ) → length ns ≡ 2 → get_or (end_items x ns) 2 blank ≡ link_to x
+end_link_at x [] e = absurd (omega (arith, e))
+end_link_at x (a ∷ []) e = absurd (omega (arith, e))
+end_link_at x (a ∷ b ∷ []) e = refl
+end_link_at x (a ∷ b ∷ c ∷ ns) e = absurd (omega (arith, e))
 
 -- Writing
 
@@ -108,10 +125,21 @@ set_past_port [] k i rest e = absurd (omega (arith, e))
 set_past_port (p ∷ []) k i rest e = ap (λ m. set (port_items (p ∷ []) ++ rest) m i) (three_more k)
 set_past_port (p ∷ q ∷ ps) k i rest e = absurd (omega (arith, e))
 
-set_last_number_at : (ns : List ℕ) (k n : ℕ) → k < length ns → set (number_items ns) k (number n) ≡ number_items (set ns k n)
-set_last_number_at [] k n l = absurd (omega (arith, l))
-set_last_number_at (y ∷ ns) zero n l = refl
-set_last_number_at (y ∷ ns) (suc k) n l = ap (λ is. number y ∷ is) (set_last_number_at ns k n (omega (arith, l)))
+set_last_number_at : (ns : List ℕ) (k n : ℕ) (rest : List Item) → k < length ns → set (number_items ns ++ rest) k (number n) ≡ number_items (set ns k n) ++ rest
+set_last_number_at [] k n rest l = absurd (omega (arith, l))
+set_last_number_at (y ∷ ns) zero n rest l = refl
+set_last_number_at (y ∷ ns) (suc k) n rest l = ap (λ is. number y ∷ is) (set_last_number_at ns k n rest (omega (arith, l)))
+
+set_end_number_at : (x : Option ℕ) (ns : List ℕ) (k n : ℕ) → k < length ns → set (end_items x ns) k (number n) ≡ end_items x (set ns k n)
+set_end_number_at x [] k n l = absurd (omega (arith, l))
+set_end_number_at x (y ∷ ns) zero n l = refl
+set_end_number_at x (y ∷ ns) (suc k) n l = set_last_number_at (y ∷ ns) (suc k) n (link_to x ∷ []) l
+
+set_end_link_at : (x y : Option ℕ) (ns : List ℕ) → length ns ≡ 2 → set (end_items x ns) 2 (link_to y) ≡ end_items y ns
+set_end_link_at x y [] e = absurd (omega (arith, e))
+set_end_link_at x y (a ∷ []) e = absurd (omega (arith, e))
+set_end_link_at x y (a ∷ b ∷ []) e = refl
+set_end_link_at x y (a ∷ b ∷ c ∷ ns) e = absurd (omega (arith, e))
 
 -- what a cell's words stand for
 
@@ -138,11 +166,11 @@ links_gone (x ∷ ls) (suc n) k rest e = ap (λ m. drop m (link_items (x ∷ ls)
 numbers_back : (ns : List ℕ) (rest : List Item) → 6 ≤ length ns → numbers_by (first_items (take 6 ns) ++ rest) ≡ take 6 ns
 numbers_back ns rest l = let h = six_of ns l in subst (λ (ms : List ℕ). numbers_by (first_items (take 6 ms) ++ rest) ≡ take 6 ms) (sym h.are) refl
 
-all_numbers_back : (ns : List ℕ) (n : ℕ) → length ns ≡ n → first_numbers n (number_items ns) ≡ ns
-all_numbers_back [] zero e = refl
-all_numbers_back [] (suc n) e = absurd (omega (arith, e))
-all_numbers_back (x ∷ ns) zero e = absurd (omega (arith, e))
-all_numbers_back (x ∷ ns) (suc n) e = ap (λ ys. x ∷ ys) (all_numbers_back ns n (omega (arith, e)))
+end_numbers_back : (x : Option ℕ) (ns : List ℕ) → length ns ≡ 2 → first_numbers 2 (end_items x ns) ≡ ns
+end_numbers_back x [] e = absurd (omega (arith, e))
+end_numbers_back x (a ∷ []) e = absurd (omega (arith, e))
+end_numbers_back x (a ∷ b ∷ []) e = refl
+end_numbers_back x (a ∷ b ∷ c ∷ ns) e = absurd (omega (arith, e))
 
 numbers_gone : (ns : List ℕ) (k : ℕ) (rest : List Item) → 6 ≤ length ns → drop (5 + k) (first_items (take 6 ns) ++ rest) ≡ drop k rest
 numbers_gone ns k rest l = let h = six_of ns l in
@@ -154,15 +182,15 @@ port_gone [] rest e = absurd (omega (arith, e))
 port_gone (p ∷ []) rest e = refl
 port_gone (p ∷ q ∷ ps) rest e = absurd (omega (arith, e))
 
--- fewer than three words behind the ports are none of a port
-ports_back : (ps : List HeldPort) (rest : List Item) → length rest < 3 → ports_by (port_items ps ++ rest) ≡ ps
-ports_back [] [] l = refl
-ports_back [] (i ∷ []) l = refl
-ports_back [] (i ∷ j ∷ []) l = refl
-ports_back [] (i ∷ j ∷ k ∷ is) l = absurd (omega (arith, l))
-ports_back (p ∷ ps) rest l = λ j. record { to = link_back p.to j; port = p.port; mark = p.mark } ∷ ports_back ps rest l j
+-- what stands behind the ports is none
+ports_back : (ps : List HeldPort) (x : Option ℕ) (ns : List ℕ) → ports_by (port_items ps ++ end_items x ns) ≡ ps
+ports_back [] x [] = refl
+ports_back [] x (n ∷ []) = refl
+ports_back [] x (n ∷ m ∷ []) = refl
+ports_back [] x (n ∷ m ∷ k ∷ ns) = refl
+ports_back (p ∷ ps) x ns = λ j. record { to = link_back p.to j; port = p.port; mark = p.mark } ∷ ports_back ps x ns j
 
-whole : (is : List Item) → 0 < length is → cell_by is ≡ Some record { links = first_links 8 is; numbers = numbers_by (drop 8 is) ++ last_numbers is; ports = ports_by (drop 13 is) }
+whole : (is : List Item) → 0 < length is → cell_by is ≡ Some record { links = first_links 7 is ++ last_link is ∷ []; numbers = numbers_by (drop 7 is) ++ last_numbers is; ports = ports_by (drop 12 is) }
 whole [] l = absurd (omega (arith, l))
 whole (i ∷ is) l = refl
 
@@ -179,47 +207,98 @@ count_ports : (ps : List HeldPort) (rest : List Item) → length (port_items ps 
 count_ports [] rest = omega arith
 count_ports (p ∷ ps) rest = let r = count_ports ps rest in omega (arith, r)
 
-count_last : (ns : List ℕ) → length (number_items ns) ≡ length ns
-count_last [] = refl
-count_last (x ∷ ns) = ap suc (count_last ns)
+-- how many words stand at the end
+no_end : (x : Option ℕ) (ns : List ℕ) → length ns ≡ 0 → end_items x ns ≡ []
+no_end x [] e = refl
+no_end x (n ∷ ns) e = absurd (omega (arith, e))
+
+three_words : (x : Option ℕ) (ns : List ℕ) → length ns ≡ 2 → length (end_items x ns) ≡ 3
+three_words x [] e = absurd (omega (arith, e))
+three_words x (a ∷ []) e = absurd (omega (arith, e))
+three_words x (a ∷ b ∷ []) e = refl
+three_words x (a ∷ b ∷ c ∷ ns) e = absurd (omega (arith, e))
+
+two_behind : (c : HeldCell) → length c.numbers ≡ 8 → length (drop 6 c.numbers) ≡ 2
+two_behind c e = let m = length-drop 6 c.numbers in omega (arith, m, e)
+
+none_behind : (c : HeldCell) → length c.numbers ≡ 6 → end_of c ≡ []
+none_behind c e = let m = length-drop 6 c.numbers in no_end (get_or c.links 7 None) (drop 6 c.numbers) (omega (arith, m, e))
 
 -- how many words a cell has
-pub word_count : (c : HeldCell) → IsShaped c → length (cell_items c) ≡ 7 + length c.numbers + length c.ports * 3
+pub word_count : (c : HeldCell) → IsShaped c → length (cell_items c) ≡ 12 + length c.ports * 3 + length (end_of c)
 word_count c s =
-    let a = count_links c.links (behind_links c) in let b = count_numbers c.numbers (behind_numbers c) (some_numbers c s) in let d = count_ports c.ports (number_items (drop 6 c.numbers)) in
-    let l = count_last (drop 6 c.numbers) in let m = length-drop 6 c.numbers in let some = some_numbers c s in
-    let e = s.links in omega (arith, a, b, d, e, l, m, some)
+    let a = count_links (take 7 c.links) (behind_links c) in let b = count_numbers c.numbers (behind_numbers c) (some_numbers c s) in let d = count_ports c.ports (end_of c) in
+    let e = seven c s in omega (arith, a, b, d, e)
 
-few_last : (c : HeldCell) → IsShaped c → length (number_items (drop 6 c.numbers)) < 3
-few_last c s = let l = count_last (drop 6 c.numbers) in let m = length-drop 6 c.numbers in elim s.numbers [
-  | inl six ↦ omega (arith, l, m, six)
-  | inr eight ↦ (let e = eight.0 in omega (arith, l, m, e))
-]
+pub atom_count : (c : HeldCell) → length c.numbers ≡ 6 → length (end_of c) ≡ 0
+atom_count c e = ap (λ (is : List Item). length is) (none_behind c e)
+
+pub membrane_count : (c : HeldCell) → length c.numbers ≡ 8 → length (end_of c) ≡ 3
+membrane_count c e = three_words (get_or c.links 7 None) (drop 6 c.numbers) (two_behind c e)
+
+-- whether it is a membrane's
+
+no_membrane : (ps : List HeldPort) → is_number (get_or (port_items ps ++ []) 3 blank) ≡ false
+no_membrane [] = refl
+no_membrane (p ∷ []) = refl
+no_membrane (p ∷ q ∷ ps) = refl
+
+a_membrane : (ps : List HeldPort) (x : Option ℕ) (ns : List ℕ) → length ps ≡ 1 → length ns ≡ 2 → is_number (get_or (port_items ps ++ end_items x ns) 3 blank) ≡ true
+a_membrane ps x [] one two = absurd (omega (arith, two))
+a_membrane [] x (n ∷ ns) one two = absurd (omega (arith, one))
+a_membrane (p ∷ []) x (n ∷ ns) one two = refl
+a_membrane (p ∷ q ∷ ps) x (n ∷ ns) one two = absurd (omega (arith, one))
+
+word_behind_port : (c : HeldCell) → IsShaped c → get_or (cell_items c) 15 blank ≡ get_or (behind_numbers c) 3 blank
+word_behind_port c s = past_links (take 7 c.links) 7 8 (behind_links c) (seven c s) ∙ past_numbers c.numbers 3 (behind_numbers c) (some_numbers c s)
+
+tells_atom : (c : HeldCell) → IsShaped c → length c.numbers ≡ 6 → is_membrane (cell_items c) ≡ false
+tells_atom c s six = ap is_number (word_behind_port c s ∙ ap (λ (is : List Item). get_or (port_items c.ports ++ is) 3 blank) (none_behind c six)) ∙ no_membrane c.ports
+
+tells_membrane : (c : HeldCell) → IsShaped c → length c.numbers ≡ 8 → is_membrane (cell_items c) ≡ true
+tells_membrane c s eight = ap is_number (word_behind_port c s) ∙ a_membrane c.ports (get_or c.links 7 None) (drop 6 c.numbers) (one_port c s eight) (two_behind c eight)
+
+-- the last link of a membrane
+pub last_link_word : (c : HeldCell) → IsShaped c → length c.numbers ≡ 8 → get_or (cell_items c) 17 blank ≡ link_to (get_or c.links 7 None)
+last_link_word c s eight = past_links (take 7 c.links) 7 10 (behind_links c) (seven c s) ∙ past_numbers c.numbers 5 (behind_numbers c) (some_numbers c s)
+    ∙ past_port c.ports 2 (end_of c) (one_port c s eight) ∙ end_link_at (get_or c.links 7 None) (drop 6 c.numbers) (two_behind c eight)
 
 -- the last numbers of a membrane are read where its row has their words
 last_back : (c : HeldCell) → IsShaped c → last_numbers (cell_items c) ≡ drop 6 c.numbers
 last_back c s = elim s.numbers [
-  | inl six ↦ (let w = word_count c s in let d : length (cell_items c) ≢ 18 = (λ e. absurd (omega (arith, w, six, e))) in let m = length-drop 6 c.numbers in
-      ap (λ (t : Bool). if t then first_numbers 2 (drop 16 (cell_items c)) else []) (not_equal (length (cell_items c)) 18 d) ∙ sym (nil_from_length (drop 6 c.numbers) (omega (arith, m, six))))
-  | inr eight ↦ (let w = word_count c s in let one = eight.1 in let number = eight.0 in let e : length (cell_items c) ≡ 18 = omega (arith, w, number, one) in let m = length-drop 6 c.numbers in
-      ap (λ (t : Bool). if t then first_numbers 2 (drop 16 (cell_items c)) else []) (eq-eqb (length (cell_items c)) 18 e)
-      ∙ ap (first_numbers 2) (links_gone c.links 8 8 (behind_links c) s.links ∙ numbers_gone c.numbers 3 (behind_numbers c) (some_numbers c s) ∙ port_gone c.ports (number_items (drop 6 c.numbers)) one)
-      ∙ all_numbers_back (drop 6 c.numbers) 2 (omega (arith, m, number)))
+  | inl six ↦ (let e = six.0 in let m = length-drop 6 c.numbers in
+      ap (λ (t : Bool). if t then first_numbers 2 (drop 15 (cell_items c)) else []) (tells_atom c s six.0) ∙ sym (nil_from_length (drop 6 c.numbers) (omega (arith, m, e))))
+  | inr eight ↦ ap (λ (t : Bool). if t then first_numbers 2 (drop 15 (cell_items c)) else []) (tells_membrane c s eight.0)
+      ∙ ap (first_numbers 2) (links_gone (take 7 c.links) 7 8 (behind_links c) (seven c s) ∙ numbers_gone c.numbers 3 (behind_numbers c) (some_numbers c s) ∙ port_gone c.ports (end_of c) eight.1)
+      ∙ end_numbers_back (get_or c.links 7 None) (drop 6 c.numbers) (two_behind c eight.0)
 ]
 
-some_words : (ls : List (Option ℕ)) (rest : List Item) → length ls ≡ 8 → 0 < length (link_items ls ++ rest)
+-- and so is its last link
+last_link_back : (c : HeldCell) → IsShaped c → last_link (cell_items c) ≡ get_or c.links 7 None
+last_link_back c s = elim s.numbers [
+  | inl six ↦ ap (λ (t : Bool). if t then led_to (get_or (cell_items c) 17 blank) else None) (tells_atom c s six.0) ∙ sym six.1
+  | inr eight ↦ ap (λ (t : Bool). if t then led_to (get_or (cell_items c) 17 blank) else None) (tells_membrane c s eight.0) ∙ ap led_to (last_link_word c s eight.0) ∙ link_back (get_or c.links 7 None)
+]
+
+all_but_one : (n : ℕ) (ls : List (Option ℕ)) → length ls ≡ suc n → take n ls ++ get_or ls n None ∷ [] ≡ ls
+all_but_one n [] e = absurd (omega (arith, e))
+all_but_one zero (x ∷ []) e = refl
+all_but_one zero (x ∷ y ∷ ls) e = absurd (omega (arith, e))
+all_but_one (suc n) (x ∷ ls) e = ap (λ ys. x ∷ ys) (all_but_one n ls (omega (arith, e)))
+
+some_words : (ls : List (Option ℕ)) (rest : List Item) → length ls ≡ 7 → 0 < length (link_items ls ++ rest)
 some_words [] rest e = absurd (omega (arith, e))
 some_words (x ∷ ls) rest e = omega arith
 
 -- the words of a cell stand for it
 pub cell_back : (c : HeldCell) → IsShaped c → cell_by (cell_items c) ≡ Some c
 cell_back c s =
-    let first : numbers_by (drop 8 (cell_items c)) ≡ take 6 c.numbers = ap numbers_by (links_gone c.links 8 0 (behind_links c) s.links) ∙ numbers_back c.numbers (behind_numbers c) (some_numbers c s) in
-    whole (cell_items c) (some_words c.links (behind_links c) s.links)
+    let first : numbers_by (drop 7 (cell_items c)) ≡ take 6 c.numbers = ap numbers_by (links_gone (take 7 c.links) 7 0 (behind_links c) (seven c s)) ∙ numbers_back c.numbers (behind_numbers c) (some_numbers c s) in
+    whole (cell_items c) (some_words (take 7 c.links) (behind_links c) (seven c s))
     ∙ (λ j. Some record {
-      links = links_back c.links 8 (behind_links c) s.links j;
+      links = ((λ t. links_back (take 7 c.links) 7 (behind_links c) (seven c s) t ++ last_link_back c s t ∷ []) ∙ all_but_one 7 c.links s.links) j;
       numbers = ((λ t. first t ++ last_back c s t) ∙ take-append-drop 6 c.numbers) j;
-      ports = (ap ports_by (links_gone c.links 8 5 (behind_links c) s.links ∙ numbers_gone c.numbers 0 (behind_numbers c) (some_numbers c s)) ∙ ports_back c.ports (number_items (drop 6 c.numbers)) (few_last c s)) j;
+      ports = (ap ports_by (links_gone (take 7 c.links) 7 5 (behind_links c) (seven c s) ∙ numbers_gone c.numbers 0 (behind_numbers c) (some_numbers c s)) ∙ ports_back c.ports (get_or c.links 7 None) (drop 6 c.numbers)) j;
     })
 
 -- Ports
@@ -264,35 +343,35 @@ set_mark_at (p ∷ ps) (suc j) n rest l = subst (λ m. set (port_items (p ∷ ps
     (ap (λ is. link_to p.to ∷ number p.port ∷ number p.mark ∷ is) (set_mark_at ps j n rest (omega (arith, l))))
 
 -- behind the links and the first numbers
-ten : (m : ℕ) → 13 + m ≡ 8 + (5 + m)
+ten : (m : ℕ) → 12 + m ≡ 7 + (5 + m)
 ten m = omega arith
 
 -- a word of the ports, among all words
-pub ports_at : (c : HeldCell) → IsShaped c → (m : ℕ) → get_or (cell_items c) (13 + m) blank ≡ get_or (behind_numbers c) m blank
-ports_at c s m = ap (λ n. get_or (cell_items c) n blank) (ten m) ∙ past_links c.links 8 (5 + m) (behind_links c) s.links ∙ past_numbers c.numbers m (behind_numbers c) (some_numbers c s)
+pub ports_at : (c : HeldCell) → IsShaped c → (m : ℕ) → get_or (cell_items c) (12 + m) blank ≡ get_or (behind_numbers c) m blank
+ports_at c s m = ap (λ n. get_or (cell_items c) n blank) (ten m) ∙ past_links (take 7 c.links) 7 (5 + m) (behind_links c) (seven c s) ∙ past_numbers c.numbers m (behind_numbers c) (some_numbers c s)
 
 -- a word of the ports is written, among all words
-pub set_ports_at : (c : HeldCell) → IsShaped c → (m : ℕ) (i : Item) → set (cell_items c) (13 + m) i ≡ link_items c.links ++ (first_items (take 6 c.numbers) ++ set (behind_numbers c) m i)
-set_ports_at c s m i = ap (λ n. set (cell_items c) n i) (ten m) ∙ set_past_links c.links 8 (5 + m) i (behind_links c) s.links
-    ∙ ap (λ is. link_items c.links ++ is) (set_past_numbers c.numbers m i (behind_numbers c) (some_numbers c s))
+pub set_ports_at : (c : HeldCell) → IsShaped c → (m : ℕ) (i : Item) → set (cell_items c) (12 + m) i ≡ link_items (take 7 c.links) ++ (first_items (take 6 c.numbers) ++ set (behind_numbers c) m i)
+set_ports_at c s m i = ap (λ n. set (cell_items c) n i) (ten m) ∙ set_past_links (take 7 c.links) 7 (5 + m) i (behind_links c) (seven c s)
+    ∙ ap (λ is. link_items (take 7 c.links) ++ is) (set_past_numbers c.numbers m i (behind_numbers c) (some_numbers c s))
 
 -- Numbers
 
 -- halves of words behind the links
-word_behind : (k : ℕ) → (16 + k) / 2 ≡ 8 + k / 2
+word_behind : (k : ℕ) → (14 + k) / 2 ≡ 7 + k / 2
 word_behind k = omega arith
 
-half_behind : (k : ℕ) → (16 + k) % 2 ≡ k % 2
+half_behind : (k : ℕ) → (14 + k) % 2 ≡ k % 2
 half_behind k = omega arith
 
-half_past_links : (ls : List (Option ℕ)) (k : ℕ) (rest : List Item) → length ls ≡ 8 → half_at (link_items ls ++ rest) (16 + k) ≡ half_at rest k
+half_past_links : (ls : List (Option ℕ)) (k : ℕ) (rest : List Item) → length ls ≡ 7 → half_at (link_items ls ++ rest) (14 + k) ≡ half_at rest k
 half_past_links ls k rest e =
-    (λ t. get_or (halves_in (get_or (link_items ls ++ rest) (word_behind k t) blank)) (half_behind k t) None) ∙ ap (λ i. get_or (halves_in i) (k % 2) None) (past_links ls 8 (k / 2) rest e)
+    (λ t. get_or (halves_in (get_or (link_items ls ++ rest) (word_behind k t) blank)) (half_behind k t) None) ∙ ap (λ i. get_or (halves_in i) (k % 2) None) (past_links ls 7 (k / 2) rest e)
 
-set_half_past_links : (ls : List (Option ℕ)) (k n : ℕ) (rest : List Item) → length ls ≡ 8 → with_half_at (16 + k) n (link_items ls ++ rest) ≡ link_items ls ++ with_half_at k n rest
+set_half_past_links : (ls : List (Option ℕ)) (k n : ℕ) (rest : List Item) → length ls ≡ 7 → with_half_at (14 + k) n (link_items ls ++ rest) ≡ link_items ls ++ with_half_at k n rest
 set_half_past_links ls k n rest e =
     (λ t. set (link_items ls ++ rest) (word_behind k t) (with_half (half_behind k t) n (get_or (link_items ls ++ rest) (word_behind k t) blank)))
-    ∙ ap (λ i. set (link_items ls ++ rest) (8 + k / 2) (with_half (k % 2) n i)) (past_links ls 8 (k / 2) rest e) ∙ set_past_links ls 8 (k / 2) (with_half (k % 2) n (get_or rest (k / 2) blank)) rest e
+    ∙ ap (λ i. set (link_items ls ++ rest) (7 + k / 2) (with_half (k % 2) n i)) (past_links ls 7 (k / 2) rest e) ∙ set_past_links ls 7 (k / 2) (with_half (k % 2) n (get_or rest (k / 2) blank)) rest e
 
 -- what is shown of small numbers and of the two others, where six are written out
 half_among : (a b c d e f k : ℕ) (ns : List ℕ) (rest : List Item) → k < 2 → half_at (halves a b ∷ number c ∷ number d ∷ number e ∷ number f ∷ rest) k ≡ Some (get_or (a ∷ b ∷ c ∷ d ∷ e ∷ f ∷ ns) k 0)
@@ -326,40 +405,40 @@ set_whole_among a b c d e f (suc (suc (suc (suc (suc zero))))) n ns rest h l = r
 set_whole_among a b c d e f (suc (suc (suc (suc (suc (suc k)))))) n ns rest h l = absurd (omega (arith, l))
 
 -- the half of a small number
-pub small_number_at : (c : HeldCell) → IsShaped c → (k : ℕ) → k < 2 → half_at (cell_items c) (16 + k) ≡ Some (get_or c.numbers k 0)
+pub small_number_at : (c : HeldCell) → IsShaped c → (k : ℕ) → k < 2 → half_at (cell_items c) (14 + k) ≡ Some (get_or c.numbers k 0)
 small_number_at c s k low = let h = six_of c.numbers (some_numbers c s) in
-    half_past_links c.links k (behind_links c) s.links
+    half_past_links (take 7 c.links) k (behind_links c) (seven c s)
     ∙ subst (λ (ns : List ℕ). half_at (first_items (take 6 ns) ++ behind_numbers c) k ≡ Some (get_or ns k 0)) (sym h.are) (half_among h.a h.b h.c h.d h.e h.f k h.others (behind_numbers c) low)
 
 -- the numbers behind the first six, where one of those is another
-same_behind : (c : HeldCell) (k n : ℕ) → k < 6 → number_items (drop 6 (set c.numbers k n)) ≡ number_items (drop 6 c.numbers)
-same_behind c k n low = ap number_items (drop-set-lt 6 c.numbers k n low)
+same_behind : (c : HeldCell) (k n : ℕ) → k < 6 → end_of (record c { numbers = set c.numbers k n }) ≡ end_of c
+same_behind c k n low = ap (end_items (get_or c.links 7 None)) (drop-set-lt 6 c.numbers k n low)
 
 -- it is written
-pub set_small_number_at : (c : HeldCell) → IsShaped c → (k n : ℕ) → k < 2 → with_half_at (16 + k) n (cell_items c) ≡ cell_items (record c { numbers = set c.numbers k n })
+pub set_small_number_at : (c : HeldCell) → IsShaped c → (k n : ℕ) → k < 2 → with_half_at (14 + k) n (cell_items c) ≡ cell_items (record c { numbers = set c.numbers k n })
 set_small_number_at c s k n low = let h = six_of c.numbers (some_numbers c s) in
-    set_half_past_links c.links k n (behind_links c) s.links
-    ∙ ap (λ is. link_items c.links ++ is) (subst (λ (ns : List ℕ). with_half_at k n (first_items (take 6 ns) ++ behind_numbers c) ≡ first_items (take 6 (set ns k n)) ++ behind_numbers c) (sym h.are) (set_half_among h.a h.b h.c h.d h.e h.f k n h.others (behind_numbers c) low)
+    set_half_past_links (take 7 c.links) k n (behind_links c) (seven c s)
+    ∙ ap (λ is. link_items (take 7 c.links) ++ is) (subst (λ (ns : List ℕ). with_half_at k n (first_items (take 6 ns) ++ behind_numbers c) ≡ first_items (take 6 (set ns k n)) ++ behind_numbers c) (sym h.are) (set_half_among h.a h.b h.c h.d h.e h.f k n h.others (behind_numbers c) low)
     ∙ ap (λ is. first_items (take 6 (set c.numbers k n)) ++ (port_items c.ports ++ is)) (sym (same_behind c k n (omega (arith, low)))))
 
-one_before : (k : ℕ) → 2 ≤ k → 8 + k - 1 ≡ 8 + (k - 1)
+one_before : (k : ℕ) → 2 ≤ k → 7 + k - 1 ≡ 7 + (k - 1)
 one_before k h = omega (arith, h)
 
 -- the word of one of the other two
-pub first_number_at : (c : HeldCell) → IsShaped c → (k : ℕ) → 2 ≤ k → k < 6 → get_or (cell_items c) (8 + k - 1) blank ≡ number (get_or c.numbers k 0)
+pub first_number_at : (c : HeldCell) → IsShaped c → (k : ℕ) → 2 ≤ k → k < 6 → get_or (cell_items c) (7 + k - 1) blank ≡ number (get_or c.numbers k 0)
 first_number_at c s k high low = let h = six_of c.numbers (some_numbers c s) in
-    ap (λ m. get_or (cell_items c) m blank) (one_before k high) ∙ past_links c.links 8 (k - 1) (behind_links c) s.links
+    ap (λ m. get_or (cell_items c) m blank) (one_before k high) ∙ past_links (take 7 c.links) 7 (k - 1) (behind_links c) (seven c s)
     ∙ subst (λ (ns : List ℕ). get_or (first_items (take 6 ns) ++ behind_numbers c) (k - 1) blank ≡ number (get_or ns k 0)) (sym h.are) (whole_among h.a h.b h.c h.d h.e h.f k h.others (behind_numbers c) high low)
 
 -- it is written
-pub set_first_number_at : (c : HeldCell) → IsShaped c → (k n : ℕ) → 2 ≤ k → k < 6 → set (cell_items c) (8 + k - 1) (number n) ≡ cell_items (record c { numbers = set c.numbers k n })
+pub set_first_number_at : (c : HeldCell) → IsShaped c → (k n : ℕ) → 2 ≤ k → k < 6 → set (cell_items c) (7 + k - 1) (number n) ≡ cell_items (record c { numbers = set c.numbers k n })
 set_first_number_at c s k n high low = let h = six_of c.numbers (some_numbers c s) in
-    ap (λ m. set (cell_items c) m (number n)) (one_before k high) ∙ set_past_links c.links 8 (k - 1) (number n) (behind_links c) s.links
-    ∙ ap (λ is. link_items c.links ++ is) (subst (λ (ns : List ℕ). set (first_items (take 6 ns) ++ behind_numbers c) (k - 1) (number n) ≡ first_items (take 6 (set ns k n)) ++ behind_numbers c) (sym h.are) (set_whole_among h.a h.b h.c h.d h.e h.f k n h.others (behind_numbers c) high low)
+    ap (λ m. set (cell_items c) m (number n)) (one_before k high) ∙ set_past_links (take 7 c.links) 7 (k - 1) (number n) (behind_links c) (seven c s)
+    ∙ ap (λ is. link_items (take 7 c.links) ++ is) (subst (λ (ns : List ℕ). set (first_items (take 6 ns) ++ behind_numbers c) (k - 1) (number n) ≡ first_items (take 6 (set ns k n)) ++ behind_numbers c) (sym h.are) (set_whole_among h.a h.b h.c h.d h.e h.f k n h.others (behind_numbers c) high low)
     ∙ ap (λ is. first_items (take 6 (set c.numbers k n)) ++ (port_items c.ports ++ is)) (sym (same_behind c k n low)))
 
 -- behind the port of a membrane
-behind_port : (k : ℕ) → 6 ≤ k → 16 + k - 6 ≡ 8 + (5 + (3 + (k - 6)))
+behind_port : (k : ℕ) → 6 ≤ k → 15 + k - 6 ≡ 7 + (5 + (3 + (k - 6)))
 behind_port k h = omega (arith, h)
 
 from_six : (k : ℕ) → 6 ≤ k → 6 + (k - 6) ≡ k
@@ -369,15 +448,36 @@ few_behind : (c : HeldCell) (k : ℕ) → length c.numbers ≡ 8 → 6 ≤ k →
 few_behind c k e h low = let m = length-drop 6 c.numbers in omega (arith, m, e, h, low)
 
 -- the word of one of the numbers behind it
-pub last_number_word : (c : HeldCell) → IsShaped c → length c.numbers ≡ 8 → (k : ℕ) → 6 ≤ k → k < 8 → get_or (cell_items c) (16 + k - 6) blank ≡ number (get_or c.numbers k 0)
-last_number_word c s e k h low = ap (λ n. get_or (cell_items c) n blank) (behind_port k h) ∙ past_links c.links 8 (5 + (3 + (k - 6))) (behind_links c) s.links
-    ∙ past_numbers c.numbers (3 + (k - 6)) (behind_numbers c) (some_numbers c s) ∙ past_port c.ports (k - 6) (number_items (drop 6 c.numbers)) (one_port c s e)
-    ∙ last_number_at (drop 6 c.numbers) (k - 6) (few_behind c k e h low) ∙ ap number (get_or-drop 6 c.numbers (k - 6) 0 ∙ ap (λ n. get_or c.numbers n 0) (from_six k h))
+pub last_number_word : (c : HeldCell) → IsShaped c → length c.numbers ≡ 8 → (k : ℕ) → 6 ≤ k → k < 8 → get_or (cell_items c) (15 + k - 6) blank ≡ number (get_or c.numbers k 0)
+last_number_word c s e k h low = ap (λ n. get_or (cell_items c) n blank) (behind_port k h) ∙ past_links (take 7 c.links) 7 (5 + (3 + (k - 6))) (behind_links c) (seven c s)
+    ∙ past_numbers c.numbers (3 + (k - 6)) (behind_numbers c) (some_numbers c s) ∙ past_port c.ports (k - 6) (end_of c) (one_port c s e)
+    ∙ end_number_at (get_or c.links 7 None) (drop 6 c.numbers) (k - 6) (few_behind c k e h low) ∙ ap number (get_or-drop 6 c.numbers (k - 6) 0 ∙ ap (λ n. get_or c.numbers n 0) (from_six k h))
 
 -- one of them is written
-pub set_last_number_word : (c : HeldCell) → IsShaped c → length c.numbers ≡ 8 → (k n : ℕ) → 6 ≤ k → k < 8 → set (cell_items c) (16 + k - 6) (number n) ≡ cell_items (record c { numbers = set c.numbers k n })
-set_last_number_word c s e k n h low = ap (λ m. set (cell_items c) m (number n)) (behind_port k h) ∙ set_past_links c.links 8 (5 + (3 + (k - 6))) (number n) (behind_links c) s.links
-    ∙ ap (λ is. link_items c.links ++ is) (set_past_numbers c.numbers (3 + (k - 6)) (number n) (behind_numbers c) (some_numbers c s)
-    ∙ ap (λ is. first_items (take 6 c.numbers) ++ is) (set_past_port c.ports (k - 6) (number n) (number_items (drop 6 c.numbers)) (one_port c s e)
-    ∙ ap (λ is. port_items c.ports ++ is) (set_last_number_at (drop 6 c.numbers) (k - 6) n (few_behind c k e h low)))
-    ∙ (λ t. first_items (sym (take-set-le 6 c.numbers k n h) t) ++ (port_items c.ports ++ number_items (sym (ap (λ m. drop 6 (set c.numbers m n)) (sym (from_six k h)) ∙ drop-set-add 6 c.numbers (k - 6) n) t))))
+pub set_last_number_word : (c : HeldCell) → IsShaped c → length c.numbers ≡ 8 → (k n : ℕ) → 6 ≤ k → k < 8 → set (cell_items c) (15 + k - 6) (number n) ≡ cell_items (record c { numbers = set c.numbers k n })
+set_last_number_word c s e k n h low = ap (λ m. set (cell_items c) m (number n)) (behind_port k h) ∙ set_past_links (take 7 c.links) 7 (5 + (3 + (k - 6))) (number n) (behind_links c) (seven c s)
+    ∙ ap (λ is. link_items (take 7 c.links) ++ is) (set_past_numbers c.numbers (3 + (k - 6)) (number n) (behind_numbers c) (some_numbers c s)
+    ∙ ap (λ is. first_items (take 6 c.numbers) ++ is) (set_past_port c.ports (k - 6) (number n) (end_of c) (one_port c s e)
+    ∙ ap (λ is. port_items c.ports ++ is) (set_end_number_at (get_or c.links 7 None) (drop 6 c.numbers) (k - 6) n (few_behind c k e h low)))
+    ∙ (λ t. first_items (sym (take-set-le 6 c.numbers k n h) t) ++ (port_items c.ports ++ end_items (get_or c.links 7 None) (sym (ap (λ m. drop 6 (set c.numbers m n)) (sym (from_six k h)) ∙ drop-set-add 6 c.numbers (k - 6) n) t))))
+
+-- Links
+
+-- the word of one of the seven links
+pub first_link_at : (c : HeldCell) → IsShaped c → (k : ℕ) → k < 7 → get_or (cell_items c) k blank ≡ link_to (get_or c.links k None)
+first_link_at c s k low = let e = seven c s in link_at (take 7 c.links) k (behind_links c) (omega (arith, e, low)) ∙ ap link_to (get_or-take 7 c.links k None low)
+
+-- it is written
+pub set_first_link_at : (c : HeldCell) → IsShaped c → (k : ℕ) (x : Option ℕ) → k < 7 → set (cell_items c) k (link_to x) ≡ cell_items (record c { links = set c.links k x })
+set_first_link_at c s k x low = let e = seven c s in
+    set_link_at (take 7 c.links) k x (behind_links c) (omega (arith, e, low))
+    ∙ (λ t. link_items (sym (take-set-lt 7 c.links k x low) t) ++ (first_items (take 6 c.numbers) ++ (port_items c.ports ++ end_items (sym (get_or-set_other c.links k 7 x None (λ (w : 7 ≡ k). absurd (omega (arith, w, low)))) t) (drop 6 c.numbers))))
+
+-- and so is the last one
+pub set_last_link_word : (c : HeldCell) → IsShaped c → length c.numbers ≡ 8 → (x : Option ℕ) → set (cell_items c) 17 (link_to x) ≡ cell_items (record c { links = set c.links 7 x })
+set_last_link_word c s eight x = let e = s.links in
+    set_past_links (take 7 c.links) 7 10 (link_to x) (behind_links c) (seven c s)
+    ∙ ap (λ is. link_items (take 7 c.links) ++ is) (set_past_numbers c.numbers 5 (link_to x) (behind_numbers c) (some_numbers c s)
+    ∙ ap (λ is. first_items (take 6 c.numbers) ++ is) (set_past_port c.ports 2 (link_to x) (end_of c) (one_port c s eight)
+    ∙ ap (λ is. port_items c.ports ++ is) (set_end_link_at (get_or c.links 7 None) x (drop 6 c.numbers) (two_behind c eight))))
+    ∙ (λ t. link_items (sym (take-set-le 7 c.links 7 x (omega arith)) t) ++ (first_items (take 6 c.numbers) ++ (port_items c.ports ++ end_items (sym (get_or-set_same c.links 7 x None (omega (arith, e))) t) (drop 6 c.numbers))))

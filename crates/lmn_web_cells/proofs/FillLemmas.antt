@@ -85,9 +85,9 @@ pub links_next : (old rows rows' : List Row) (b k left : ℕ) → Filled old row
 links_next old rows rows' b k left f r = subst (λ done. Filled old rows' b done left) (more_links k) (next old rows rows' b (blank_links k) left k (link_to None) f (sym (count_links k)) r)
 
 abbrev head_ports : ℕ → List Item
-head_ports j = blank_links 8 ++ (blank_numbers ++ blank_ports j)
+head_ports j = blank_links 7 ++ (blank_numbers ++ blank_ports j)
 
-count_head : (j : ℕ) → length (head_ports j) ≡ 13 + j * 3
+count_head : (j : ℕ) → length (head_ports j) ≡ 12 + j * 3
 count_head j = let n = count_ports j in omega (arith, n)
 
 abbrev port_one : ℕ → List Item
@@ -100,21 +100,21 @@ count_more : (xs : List Item) (i : Item) → length (xs ++ i ∷ []) ≡ suc (le
 count_more [] i = refl
 count_more (x ∷ xs) i = ap suc (count_more xs i)
 
-count_one : (j : ℕ) → length (port_one j) ≡ 13 + j * 3 + 1
+count_one : (j : ℕ) → length (port_one j) ≡ 12 + j * 3 + 1
 count_one j = let a = count_more (head_ports j) (link_to None) in let b = count_head j in omega (arith, a, b)
 
-count_two : (j : ℕ) → length (port_two j) ≡ 13 + j * 3 + 2
+count_two : (j : ℕ) → length (port_two j) ≡ 12 + j * 3 + 2
 count_two j = let a = count_more (port_one j) (number 0) in let b = count_one j in omega (arith, a, b)
 
-ports_one : (old rows rows' : List Row) (b j left : ℕ) → Filled old rows b (head_ports j) (suc left) → rows' ≡ with_items b (set (items_in rows b) (13 + j * 3) (link_to None)) rows → Filled old rows' b (port_one j) left
-ports_one old rows rows' b j left f r = next old rows rows' b (head_ports j) left (13 + j * 3) (link_to None) f (sym (count_head j)) r
+ports_one : (old rows rows' : List Row) (b j left : ℕ) → Filled old rows b (head_ports j) (suc left) → rows' ≡ with_items b (set (items_in rows b) (12 + j * 3) (link_to None)) rows → Filled old rows' b (port_one j) left
+ports_one old rows rows' b j left f r = next old rows rows' b (head_ports j) left (12 + j * 3) (link_to None) f (sym (count_head j)) r
 
-ports_two : (old rows rows' : List Row) (b j left : ℕ) → Filled old rows b (port_one j) (suc left) → rows' ≡ with_items b (set (items_in rows b) (13 + j * 3 + 1) (number 0)) rows → Filled old rows' b (port_two j) left
-ports_two old rows rows' b j left f r = next old rows rows' b (port_one j) left (13 + j * 3 + 1) (number 0) f (sym (count_one j)) r
+ports_two : (old rows rows' : List Row) (b j left : ℕ) → Filled old rows b (port_one j) (suc left) → rows' ≡ with_items b (set (items_in rows b) (12 + j * 3 + 1) (number 0)) rows → Filled old rows' b (port_two j) left
+ports_two old rows rows' b j left f r = next old rows rows' b (port_one j) left (12 + j * 3 + 1) (number 0) f (sym (count_one j)) r
 
-ports_three : (old rows rows' : List Row) (b j left : ℕ) → Filled old rows b (port_two j) (suc left) → rows' ≡ with_items b (set (items_in rows b) (13 + j * 3 + 2) (number 0)) rows → Filled old rows' b (head_ports (suc j)) left
+ports_three : (old rows rows' : List Row) (b j left : ℕ) → Filled old rows b (port_two j) (suc left) → rows' ≡ with_items b (set (items_in rows b) (12 + j * 3 + 2) (number 0)) rows → Filled old rows' b (head_ports (suc j)) left
 ports_three old rows rows' b j left f r =
-    subst (λ done. Filled old rows' b (blank_links 8 ++ (blank_numbers ++ done)) left) (more_ports j) (next old rows rows' b (port_two j) left (13 + j * 3 + 2) (number 0) f (sym (count_two j)) r)
+    subst (λ done. Filled old rows' b (blank_links 7 ++ (blank_numbers ++ done)) left) (more_ports j) (next old rows rows' b (port_two j) left (12 + j * 3 + 2) (number 0) f (sym (count_two j)) r)
 
 begun : (old : List Row) (b : ℕ) (done : List Item) (left : ℕ) → 0 < length done + left → items_in old b ≡ done ++ replicate left blank → Filled old old b done left
 begun old b done left l e = record {
@@ -130,7 +130,7 @@ LinksDone old rows b n k = (left : ℕ) × (left + k ≡ n) × Filled old rows b
 
 -- the links, the numbers and so many ports are written
 abbrev pub PortsDone : List Row → List Row → ℕ → ℕ → ℕ → Type 0
-PortsDone old rows b p j = (left : ℕ) × (left + j * 3 ≡ p * 3) × Filled old rows b (blank_links 8 ++ (blank_numbers ++ blank_ports j)) left
+PortsDone old rows b p j = (left : ℕ) × (left + j * 3 ≡ p * 3) × Filled old rows b (blank_links 7 ++ (blank_numbers ++ blank_ports j)) left
 
 plus_one : (k : ℕ) → suc k ≡ k + 1
 plus_one k = omega arith
@@ -151,8 +151,8 @@ links_more old rows rows' b n k (suc left) e f low r = (left, omega (arith, e), 
 pub links_step : (old rows rows' : List Row) (b n k : ℕ) → LinksDone old rows b n k → k < n → rows' ≡ with_items b (set (items_in rows b) k (link_to None)) rows → LinksDone old rows' b n (k + 1)
 links_step old rows rows' b n k d low r = links_more old rows rows' b n k d.0 d.1 d.2 low r
 
--- all eight are written
-pub links_end : (old rows : List Row) (b left k : ℕ) → LinksDone old rows b (8 + left) k → k ≡ 8 → rows ≡ with_items b (blank_links 8 ++ replicate left blank) old
+-- all seven are written
+pub links_end : (old rows : List Row) (b left k : ℕ) → LinksDone old rows b (7 + left) k → k ≡ 7 → rows ≡ with_items b (blank_links 7 ++ replicate left blank) old
 links_end old rows b left k d e = let w = d.1 in let n : d.0 ≡ left = omega (arith, w, e) in d.2.are ∙ (λ t. with_items b (blank_links (e t) ++ replicate (n t) blank) old)
 
 -- so many ports are written at first
@@ -160,8 +160,8 @@ pub ports_begin : (old : List Row) (b p j : ℕ) → j < p → items_in old b �
 ports_begin old b p j low e = ((p - j) * 3, omega (arith, low), begun old b (head_ports j) ((p - j) * 3) (omega arith) e)
 
 -- the first word of the next port is one of the row
-pub ports_there : (old rows : List Row) (b p j : ℕ) → PortsDone old rows b p j → j < p → 13 + j * 3 < length (items_in rows b)
-ports_there old rows b p j d low = let e = d.1 in next_there old rows b (head_ports j) d.0 (13 + j * 3) d.2 (sym (count_head j)) (omega (arith, e, low))
+pub ports_there : (old rows : List Row) (b p j : ℕ) → PortsDone old rows b p j → j < p → 12 + j * 3 < length (items_in rows b)
+ports_there old rows b p j d low = let e = d.1 in next_there old rows b (head_ports j) d.0 (12 + j * 3) d.2 (sym (count_head j)) (omega (arith, e, low))
 
 -- the same after one and two of the three
 abbrev pub OneDone : List Row → List Row → ℕ → ℕ → ℕ → Type 0
@@ -170,36 +170,36 @@ OneDone old rows b p j = (left : ℕ) × (left + j * 3 + 1 ≡ p * 3) × Filled 
 abbrev TwoDone : List Row → List Row → ℕ → ℕ → ℕ → Type 0
 TwoDone old rows b p j = (left : ℕ) × (left + j * 3 + 2 ≡ p * 3) × Filled old rows b (port_two j) left
 
-one_more : (old rows rows' : List Row) (b p j left : ℕ) → left + j * 3 ≡ p * 3 → Filled old rows b (head_ports j) left → j < p → rows' ≡ with_items b (set (items_in rows b) (13 + j * 3) (link_to None)) rows → OneDone old rows' b p j
+one_more : (old rows rows' : List Row) (b p j left : ℕ) → left + j * 3 ≡ p * 3 → Filled old rows b (head_ports j) left → j < p → rows' ≡ with_items b (set (items_in rows b) (12 + j * 3) (link_to None)) rows → OneDone old rows' b p j
 one_more old rows rows' b p j zero e f low r = absurd (omega (arith, e, low))
 one_more old rows rows' b p j (suc left) e f low r = (left, omega (arith, e), ports_one old rows rows' b j left f r)
 
 -- the first word of a port is written
-pub first_word : (old rows rows' : List Row) (b p j : ℕ) → PortsDone old rows b p j → j < p → rows' ≡ with_items b (set (items_in rows b) (13 + j * 3) (link_to None)) rows → OneDone old rows' b p j
+pub first_word : (old rows rows' : List Row) (b p j : ℕ) → PortsDone old rows b p j → j < p → rows' ≡ with_items b (set (items_in rows b) (12 + j * 3) (link_to None)) rows → OneDone old rows' b p j
 first_word old rows rows' b p j d low r = one_more old rows rows' b p j d.0 d.1 d.2 low r
 
 -- its second word is one of the row
-pub second_there : (old rows : List Row) (b p j : ℕ) → OneDone old rows b p j → j < p → 13 + j * 3 + 1 < length (items_in rows b)
-second_there old rows b p j d low = let e = d.1 in next_there old rows b (port_one j) d.0 (13 + j * 3 + 1) d.2 (sym (count_one j)) (omega (arith, e, low))
+pub second_there : (old rows : List Row) (b p j : ℕ) → OneDone old rows b p j → j < p → 12 + j * 3 + 1 < length (items_in rows b)
+second_there old rows b p j d low = let e = d.1 in next_there old rows b (port_one j) d.0 (12 + j * 3 + 1) d.2 (sym (count_one j)) (omega (arith, e, low))
 
-two_more : (old rows rows' : List Row) (b p j left : ℕ) → left + j * 3 + 1 ≡ p * 3 → Filled old rows b (port_one j) left → j < p → rows' ≡ with_items b (set (items_in rows b) (13 + j * 3 + 1) (number 0)) rows → TwoDone old rows' b p j
+two_more : (old rows rows' : List Row) (b p j left : ℕ) → left + j * 3 + 1 ≡ p * 3 → Filled old rows b (port_one j) left → j < p → rows' ≡ with_items b (set (items_in rows b) (12 + j * 3 + 1) (number 0)) rows → TwoDone old rows' b p j
 two_more old rows rows' b p j zero e f low r = absurd (omega (arith, e, low))
 two_more old rows rows' b p j (suc left) e f low r = (left, omega (arith, e), ports_two old rows rows' b j left f r)
 
 -- its second word is written
-pub second_word : (old rows rows' : List Row) (b p j : ℕ) → OneDone old rows b p j → j < p → rows' ≡ with_items b (set (items_in rows b) (13 + j * 3 + 1) (number 0)) rows → TwoDone old rows' b p j
+pub second_word : (old rows rows' : List Row) (b p j : ℕ) → OneDone old rows b p j → j < p → rows' ≡ with_items b (set (items_in rows b) (12 + j * 3 + 1) (number 0)) rows → TwoDone old rows' b p j
 second_word old rows rows' b p j d low r = two_more old rows rows' b p j d.0 d.1 d.2 low r
 
 -- its third word is one of the row
-pub third_there : (old rows : List Row) (b p j : ℕ) → TwoDone old rows b p j → j < p → 13 + j * 3 + 2 < length (items_in rows b)
-third_there old rows b p j d low = let e = d.1 in next_there old rows b (port_two j) d.0 (13 + j * 3 + 2) d.2 (sym (count_two j)) (omega (arith, e, low))
+pub third_there : (old rows : List Row) (b p j : ℕ) → TwoDone old rows b p j → j < p → 12 + j * 3 + 2 < length (items_in rows b)
+third_there old rows b p j d low = let e = d.1 in next_there old rows b (port_two j) d.0 (12 + j * 3 + 2) d.2 (sym (count_two j)) (omega (arith, e, low))
 
-three_more : (old rows rows' : List Row) (b p j left : ℕ) → left + j * 3 + 2 ≡ p * 3 → Filled old rows b (port_two j) left → j < p → rows' ≡ with_items b (set (items_in rows b) (13 + j * 3 + 2) (number 0)) rows → PortsDone old rows' b p (j + 1)
+three_more : (old rows rows' : List Row) (b p j left : ℕ) → left + j * 3 + 2 ≡ p * 3 → Filled old rows b (port_two j) left → j < p → rows' ≡ with_items b (set (items_in rows b) (12 + j * 3 + 2) (number 0)) rows → PortsDone old rows' b p (j + 1)
 three_more old rows rows' b p j zero e f low r = absurd (omega (arith, e, low))
 three_more old rows rows' b p j (suc left) e f low r = (left, omega (arith, e), subst (λ n. Filled old rows' b (head_ports n) left) (plus_one j) (ports_three old rows rows' b j left f r))
 
 -- its third word is written: one more port
-pub third_word : (old rows rows' : List Row) (b p j : ℕ) → TwoDone old rows b p j → j < p → rows' ≡ with_items b (set (items_in rows b) (13 + j * 3 + 2) (number 0)) rows → PortsDone old rows' b p (j + 1)
+pub third_word : (old rows rows' : List Row) (b p j : ℕ) → TwoDone old rows b p j → j < p → rows' ≡ with_items b (set (items_in rows b) (12 + j * 3 + 2) (number 0)) rows → PortsDone old rows' b p (j + 1)
 third_word old rows rows' b p j d low r = three_more old rows rows' b p j d.0 d.1 d.2 low r
 
 -- what is written then
@@ -207,12 +207,12 @@ pub ports_are : (old rows : List Row) (b p j : ℕ) → PortsDone old rows b p j
 ports_are old rows b p j d = let e = d.1 in let n : d.0 ≡ (p - j) * 3 = omega (arith, e) in d.2.are ∙ (λ t. with_items b (head_ports j ++ replicate (n t) blank) old)
 
 -- no port is written
-pub ports_none : (p : ℕ) → blank_links 8 ++ (blank_numbers ++ replicate (p * 3) blank) ≡ ports_filled p 0
-ports_none p = let n : p * 3 ≡ (p - 0) * 3 = omega arith in λ t. blank_links 8 ++ (blank_numbers ++ replicate (n t) blank)
+pub ports_none : (p : ℕ) → blank_links 7 ++ (blank_numbers ++ replicate (p * 3) blank) ≡ ports_filled p 0
+ports_none p = let n : p * 3 ≡ (p - 0) * 3 = omega arith in λ t. blank_links 7 ++ (blank_numbers ++ replicate (n t) blank)
 
 -- all ports are
 pub ports_all : (p j : ℕ) → j ≡ p → ports_filled p j ≡ cell_items (blank_cell p)
-ports_all p j same = let n : (p - j) * 3 ≡ 0 = omega (arith, same) in λ t. blank_links 8 ++ (blank_numbers ++ (blank_ports (same t) ++ replicate (n t) blank))
+ports_all p j same = let n : (p - j) * 3 ≡ 0 = omega (arith, same) in λ t. blank_links 7 ++ (blank_numbers ++ (blank_ports (same t) ++ replicate (n t) blank))
 
 -- one step behind another
 pub then : (old rows rows' : List Row) (b : ℕ) (is js : List Item) → rows ≡ with_items b is old → rows' ≡ with_items b js rows → rows' ≡ with_items b js old
@@ -233,19 +233,22 @@ and_written old rows rows' b k is i there e r = then old rows rows' b is (set is
 -- The words of a membrane before its port is written, and after each of the words at its end is
 
 abbrev pub end_none : List Item
-end_none = blank_links 8 ++ (blank_numbers ++ replicate 5 blank)
+end_none = blank_links 7 ++ (blank_numbers ++ replicate 6 blank)
 
 abbrev pub end_one : List Item
-end_one = set end_none 13 (link_to None)
+end_one = set end_none 12 (link_to None)
 
 abbrev pub end_two : List Item
-end_two = set end_one 14 (number 0)
+end_two = set end_one 13 (number 0)
 
 abbrev pub end_three : List Item
-end_three = set end_two 15 (number 0)
+end_three = set end_two 14 (number 0)
 
 abbrev pub end_four : List Item
-end_four = set end_three 16 (number 0)
+end_four = set end_three 15 (number 0)
+
+abbrev pub end_five : List Item
+end_five = set end_four 16 (number 0)
 
 -- at first none is
 pub end_begun : (old : List Row) (b : ℕ) → items_in old b ≡ end_none → old ≡ with_items b end_none old
@@ -262,26 +265,26 @@ end_there old rows b k is there e low = subst (λ js. k < length js) (sym (writt
 -- The words of a cell before its first numbers are written, and after each is
 
 abbrev pub head_none : ℕ → List Item
-head_none left = blank_links 8 ++ (replicate 5 blank ++ replicate left blank)
+head_none left = blank_links 7 ++ (replicate 5 blank ++ replicate left blank)
 
 abbrev pub head_one : ℕ → List Item
-head_one left = with_half_at 16 0 (head_none left)
+head_one left = with_half_at 14 0 (head_none left)
 
 abbrev pub head_two : ℕ → List Item
-head_two left = with_half_at 17 0 (head_one left)
+head_two left = with_half_at 15 0 (head_one left)
 
 abbrev pub head_three : ℕ → List Item
-head_three left = set (head_two left) 9 (number 0)
+head_three left = set (head_two left) 8 (number 0)
 
 abbrev pub head_four : ℕ → List Item
-head_four left = set (head_three left) 10 (number 0)
+head_four left = set (head_three left) 9 (number 0)
 
 abbrev pub head_five : ℕ → List Item
-head_five left = set (head_four left) 11 (number 0)
+head_five left = set (head_four left) 10 (number 0)
 
 -- none of the five words is written
-pub five_blank : (left : ℕ) → blank_links 8 ++ replicate (5 + left) blank ≡ head_none left
-five_blank left = ap (λ (n : ℕ). blank_links 8 ++ replicate n blank) (five_more left) where
+pub five_blank : (left : ℕ) → blank_links 7 ++ replicate (5 + left) blank ≡ head_none left
+five_blank left = ap (λ (n : ℕ). blank_links 7 ++ replicate n blank) (five_more left) where
   five_more : (k : ℕ) → 5 + k ≡ suc (suc (suc (suc (suc k))))
   five_more k = omega arith
 

@@ -1,13 +1,15 @@
 -- Cells that are made, and that are freed.
-use Rattle.std.proofs.Common.{◌≡◌, ◌≢◌, ℕ, ◌+◌, ◌*◌, ◌<◌, ◌^◌, List, [], length, Option, Some, None, IsSome, refl, sym, subst, ap, ◌∙◌, inl, inr, arith, zero, suc, get_or, replicate}
+use Rattle.std.proofs.Common.{◌≡◌, ◌≢◌, ◌==◌, ℕ, ◌+◌, ◌*◌, ◌<◌, ◌^◌, List, [], length, Option, Some, None, IsSome, refl, sym, subst, ap, ◌∙◌, inl, inr, arith, zero, suc, get_or, replicate}
 use Rattle.std.proofs.lemmas.Bool.{cases_eq}
 use lib.ListN.{length-replicate}
 use Rattle.lmn_web_cells.specs.Rows.{Item, Row, blank, items_in, with_items}
 use Rattle.lmn_web_rows.specs.Seen.{HaveSameWords, IsMade, IsGone}
-use Rattle.lmn_web_cells.specs.Cells.{HeldCell, cell_items, cell_by, cells_by, blank_cell, blank_membrane, no_port, IsShaped, IsLaid, AreLaid, numbers_of, ports_of}
+use Rattle.lmn_web_cells.specs.Cells.{HeldCell, cell_items, cell_by, cells_by, blank_cell, blank_membrane, no_port, IsShaped, IsLaid, AreLaid, IsLinkWord, link_of, link_to, numbers_of, ports_of, with_link}
 use Rattle.lmn_store_heap.specs.Heap.{alter}
-use Rattle.lmn_web_cells.proofs.CellWords.{cell_back, word_count}
-use Rattle.lmn_web_cells.proofs.CellRows.{found, items_same, items_away}
+use Rattle.lmn_web_cells.proofs.CellWords.{cell_back, word_count, atom_count, membrane_count}
+use Rattle.lmn_web_cells.proofs.CellRows.{Changed, found, items_same, items_away, words_there, link_changes, last_link_changes}
+use Rattle.lmn_base.proofs.Numbers.{not_equal}
+use Rattle.lmn_base.proofs.Truth.{if_no}
 use Rattle.lmn_store_heap.proofs.Listing.{alter_at, alter_away}
 
 none_is : (n k : ℕ) → ◌≡◌ {A = ℕ} (get_or (replicate n 0) k 0) 0
@@ -19,7 +21,7 @@ small_none : (n k : ℕ) → k < 2 → get_or (replicate n 0) k 0 < 2 ^ 32
 small_none n k low = let e = none_is n k in omega (arith, e)
 
 blank_shaped : (p : ℕ) → p < 2 ^ 16 → IsShaped (blank_cell p)
-blank_shaped p few = record { links = refl; numbers = inl refl; small = small_none 6; few = subst (λ n. n < 2 ^ 16) (sym (length-replicate p no_port)) few }
+blank_shaped p few = record { links = refl; numbers = inl (refl, refl); small = small_none 6; few = subst (λ n. n < 2 ^ 16) (sym (length-replicate p no_port)) few }
 
 membrane_shaped : IsShaped blank_membrane
 membrane_shaped = record { links = refl; numbers = inr (refl, refl); small = small_none 8; few = omega arith }
@@ -49,8 +51,8 @@ made_cell old mid new b words c laid shaped some m e =
     (λ j d. ap (λ (z : List Row). items_in z j) e ∙ items_away mid b is j d ∙ m.others j d)
 
 -- that of an atom
-pub made : (old mid new : List Row) (b p : ℕ) → AreLaid old → p < 2 ^ 16 → IsMade old mid b (13 + p * 3) → new ≡ with_items b (cell_items (blank_cell p)) mid → Cells old new b (Some (blank_cell p))
-made old mid new b p laid few m e = made_cell old mid new b (13 + p * 3) (blank_cell p) laid (blank_shaped p few) (omega arith) m e
+pub made : (old mid new : List Row) (b p : ℕ) → AreLaid old → p < 2 ^ 16 → IsMade old mid b (12 + p * 3) → new ≡ with_items b (cell_items (blank_cell p)) mid → Cells old new b (Some (blank_cell p))
+made old mid new b p laid few m e = made_cell old mid new b (12 + p * 3) (blank_cell p) laid (blank_shaped p few) (omega arith) m e
 
 -- and of a membrane
 pub made_membrane : (old mid new : List Row) (b : ℕ) → AreLaid old → IsMade old mid b 18 → new ≡ with_items b (cell_items blank_membrane) mid → Cells old new b (Some blank_membrane)
@@ -73,10 +75,10 @@ few_ports rows b p laid there e =
     let f = found rows b laid there in let few = f.shaped.few in let same : length f.cell.ports ≡ p = sym (ap (λ (o : Option HeldCell). length (ports_of o)) f.is) ∙ e in omega (arith, few, same)
 
 -- how many words the row of a cell has
-pub count_words : (rows : List Row) (b p : ℕ) → AreLaid rows → IsSome (cells_by rows b) → length (numbers_of (cells_by rows b)) ≡ 6 → length (ports_of (cells_by rows b)) ≡ p → length (items_in rows b) ≡ 13 + p * 3
+pub count_words : (rows : List Row) (b p : ℕ) → AreLaid rows → IsSome (cells_by rows b) → length (numbers_of (cells_by rows b)) ≡ 6 → length (ports_of (cells_by rows b)) ≡ p → length (items_in rows b) ≡ 12 + p * 3
 count_words rows b p laid there six e =
     let f = found rows b laid there in let same : length f.cell.ports ≡ p = sym (ap (λ (o : Option HeldCell). length (ports_of o)) f.is) ∙ e in
-    let n : length f.cell.numbers ≡ 6 = sym (ap (λ (o : Option HeldCell). length (numbers_of o)) f.is) ∙ six in let w = word_count f.cell f.shaped in let e : length (cell_items f.cell) ≡ 13 + p * 3 = omega (arith, w, n, same) in
+    let n : length f.cell.numbers ≡ 6 = sym (ap (λ (o : Option HeldCell). length (numbers_of o)) f.is) ∙ six in let w = word_count f.cell f.shaped in let z = atom_count f.cell n in let e : length (cell_items f.cell) ≡ 12 + p * 3 = omega (arith, w, z, same) in
     ap (λ (is : List Item). length is) f.words ∙ e
 
 -- and that of a membrane
@@ -84,7 +86,28 @@ pub count_membrane : (rows : List Row) (b : ℕ) → AreLaid rows → IsSome (ce
 count_membrane rows b laid there eight =
     let f = found rows b laid there in let n : length f.cell.numbers ≡ 8 = sym (ap (λ (o : Option HeldCell). length (numbers_of o)) f.is) ∙ eight in let w = word_count f.cell f.shaped in
     let e : length (cell_items f.cell) ≡ 18 = elim f.shaped.numbers [
-      | inl six ↦ absurd (omega (arith, six, n))
-      | inr e ↦ (let one = e.1 in omega (arith, w, n, one))
+      | inl six ↦ (let e = six.0 in absurd (omega (arith, e, n)))
+      | inr e ↦ (let one = e.1 in let z = membrane_count f.cell n in omega (arith, w, z, one))
     ] in
     ap (λ (is : List Item). length is) f.words ∙ e
+
+-- The link in a word
+
+-- one of the first seven is its own number
+pub link_itself : (word : ℕ) → word < 7 → link_of word ≡ word
+link_itself word low = if_no (word == 17) 7 word (not_equal word 17 (λ (e : word ≡ 17). absurd (omega (arith, e, low))))
+
+-- a word of a link is one of the first
+pub word_small : (c : Option HeldCell) (word : ℕ) → IsLinkWord c word → word < 2 ^ 32
+word_small c word (inl low) = omega (arith, low)
+word_small c word (inr last) = let e = last.0 in omega (arith, e)
+
+-- it is a word of the row
+pub word_there : (rows : List Row) (b word : ℕ) → AreLaid rows → IsSome (cells_by rows b) → IsLinkWord (cells_by rows b) word → word < length (items_in rows b)
+word_there rows b word laid there (inl low) = let some = words_there rows b laid there in omega (arith, low, some)
+word_there rows b word laid there (inr last) = let all = count_membrane rows b laid there last.1 in let e = last.0 in omega (arith, all, e)
+
+-- what a row is after the link in it was written
+pub word_changes : (rows : List Row) (b word : ℕ) (x : Option ℕ) (laid : AreLaid rows) (there : IsSome (cells_by rows b)) → IsLinkWord (cells_by rows b) word → Changed rows b word (link_to x) (with_link (link_of word) x)
+word_changes rows b word x laid there (inl low) = subst (λ (k : ℕ). Changed rows b word (link_to x) (with_link k x)) (sym (link_itself word low)) (link_changes rows b word x laid there low)
+word_changes rows b word x laid there (inr last) = subst (λ (k : ℕ). Changed rows b k (link_to x) (with_link (link_of k) x)) (sym last.0) (last_link_changes rows b x laid there last.1)

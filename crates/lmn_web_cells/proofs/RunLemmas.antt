@@ -28,6 +28,21 @@ pub last_in : (f : ℕ → Node) (b first : Option ℕ) (y : ℕ) (ys : List ℕ
 last_in f b first y [] p e r = (y, r.2.1, inl refl)
 last_in f b first y (z ∷ ys) p e r = let s = last_in f (Some y) (f y).next z ys p e r.2 in (s.0, s.1, inr s.2)
 
+-- and it is followed by what ends the run
+pub last_next : (f : ℕ → Node) (b first : Option ℕ) (y : ℕ) (ys : List ℕ) (p e : Option ℕ) (q : ℕ) → RunsThrough f b first (y ∷ ys) p e → p ≡ Some q → (f q).next ≡ e
+last_next f b first y [] p e q r at = ap (λ z. (f z).next) (let h : ◌≡◌ {A = Option ℕ} (Some q) (Some y) = sym at ∙ r.2.1 in let s : q ≡ y = cc in s) ∙ r.2.0
+last_next f b first y (z ∷ ys) p e q r at = last_next f (Some y) (f y).next z ys p e q r.2 at
+
+-- what precedes the rest of a run is in its front
+pub before_behind : (f : ℕ → Node) (b first : Option ℕ) (y : ℕ) (ys : List ℕ) (p m : Option ℕ) (q : ℕ) → RunsThrough f b first (y ∷ ys) p m → p ≡ Some q → In q (y ∷ ys)
+before_behind f b first y ys p m q r at = let s = last_in f b first y ys p m r in subst (λ u. In u (y ∷ ys)) (let h : Some s.0 ≡ Some q = sym s.1 ∙ at in cc) s.2
+
+-- what stands before a cell of a run behind the first one stands in its front, and is followed by it
+pub prev_in : (f : ℕ → Node) (b first : Option ℕ) (y : ℕ) (ys : List ℕ) (x : ℕ) (zs : List ℕ) (last : Option ℕ) → RunsThrough f b first ((y ∷ ys) ++ (x ∷ zs)) last None → (q : ℕ) → (f x).prev ≡ Some q → In q (y ∷ ys) × ((f q).next ≡ Some x)
+prev_in f b first y ys x zs last r q e =
+    let s = split f b first (y ∷ ys) (x ∷ zs) last None r in let p : s.0 ≡ Some q = sym s.3.1 ∙ e in
+    (before_behind f b first y ys s.0 s.1 q s.2 p, last_next f b first y ys s.0 s.1 q s.2 p ∙ s.3.0)
+
 -- the last one is followed by something else
 pub relink_end : (f g : ℕ → Node) (b first : Option ℕ) (y : ℕ) (ys : List ℕ) (p e new : Option ℕ) → RunsThrough f b first (y ∷ ys) p e → Distinct (y ∷ ys)
     → ((q : ℕ) → p ≡ Some q → g q ≡ record (f q) { next = new }) → ((z : ℕ) → In z (y ∷ ys) → p ≢ Some z → g z ≡ f z) → RunsThrough g b first (y ∷ ys) p new
@@ -65,6 +80,17 @@ pub record Left (f g : ℕ → Node) (x : ℕ) (p n : Option ℕ) : Type 0 where
   pub behind : (q : ℕ) → q ≢ x → p ≢ Some q → n ≡ Some q → g q ≡ record (f q) { prev = p }
 
 module _ (f g : ℕ → Node) (x : ℕ) (p n : Option ℕ) (h : Left f g x p n) where
+  -- the part before it, where it isn't the first
+  front_left : (b first : Option ℕ) (y : ℕ) (ys zs : List ℕ) → Distinct ((y ∷ ys) ++ (x ∷ zs)) → ((r : ℕ) → n ≡ Some r → In r zs)
+      → RunsThrough f b first (y ∷ ys) p (Some x) → RunsThrough g b first (y ∷ ys) p n
+  front_left b first y ys zs d next r =
+      let s = last_in f b first y ys p (Some x) r in
+      let no_x : (z : ℕ) → In z (y ∷ ys) → z ≢ x = λ z i. apart (y ∷ ys) (x ∷ zs) z x d i (inl refl) in
+      let no_next : (z : ℕ) → In z (y ∷ ys) → n ≢ Some z = λ z i same. apart (y ∷ ys) (x ∷ zs) z z d i (inr (next z same)) refl in
+      relink_end f g b first y ys p (Some x) n r (distinct_left (y ∷ ys) (x ∷ zs) d)
+      (λ q at. let i : In q (y ∷ ys) = subst (λ u. In u (y ∷ ys)) (let e : Some s.0 ≡ Some q = sym s.1 ∙ at in cc) s.2 in h.before q (no_x q i) at (no_next q i))
+      (λ z i away. h.other z (no_x z i) away (no_next z i))
+
   -- the part before it
   left_part : (ys zs : List ℕ) (first : Option ℕ) → Distinct (ys ++ (x ∷ zs)) → ((r : ℕ) → n ≡ Some r → In r zs)
       → RunsThrough f None first ys p (Some x) → RunsThrough g None (begins first p n) ys p n
@@ -72,12 +98,7 @@ module _ (f g : ℕ → Node) (x : ℕ) (p n : Option ℕ) (h : Left f g x p n) 
   left_part (y ∷ ys) zs first d next r =
       let s = last_in f None first y ys p (Some x) r in
       let keeps : begins first p n ≡ first = ap (λ o. begins first o n) s.1 in
-      let no_x : (z : ℕ) → In z (y ∷ ys) → z ≢ x = λ z i. apart (y ∷ ys) (x ∷ zs) z x d i (inl refl) in
-      let no_next : (z : ℕ) → In z (y ∷ ys) → n ≢ Some z = λ z i same. apart (y ∷ ys) (x ∷ zs) z z d i (inr (next z same)) refl in
-      subst (λ o. RunsThrough g None o (y ∷ ys) p n) (sym keeps)
-      (relink_end f g None first y ys p (Some x) n r (distinct_left (y ∷ ys) (x ∷ zs) d)
-      (λ q at. let i : In q (y ∷ ys) = subst (λ u. In u (y ∷ ys)) (let e : Some s.0 ≡ Some q = sym s.1 ∙ at in cc) s.2 in h.before q (no_x q i) at (no_next q i))
-      (λ z i away. h.other z (no_x z i) away (no_next z i)))
+      subst (λ o. RunsThrough g None o (y ∷ ys) p n) (sym keeps) (front_left None first y ys zs d next r)
 
   -- the part after it
   right_part : (ys zs : List ℕ) (last : Option ℕ) → Distinct (ys ++ (x ∷ zs)) → ((q : ℕ) → p ≡ Some q → In q ys)
@@ -96,8 +117,7 @@ module _ (f g : ℕ → Node) (x : ℕ) (p n : Option ℕ) (h : Left f g x p n) 
 -- what precedes the rest of a run is in it
 pub before_in : (f : ℕ → Node) (first : Option ℕ) (ys : List ℕ) (p m : Option ℕ) (q : ℕ) → RunsThrough f None first ys p m → p ≡ Some q → In q ys
 before_in f first [] p m q r at = absurd (let h : Some q ≡ None = sym at ∙ r.1 in cc)
-before_in f first (y ∷ ys) p m q r at =
-    let s = last_in f None first y ys p m r in subst (λ u. In u (y ∷ ys)) (let h : Some s.0 ≡ Some q = sym s.1 ∙ at in cc) s.2
+before_in f first (y ∷ ys) p m q r at = before_behind f None first y ys p m q r at
 
 -- what begins a run is in it
 pub after_in : (f : ℕ → Node) (b n : Option ℕ) (zs : List ℕ) (last : Option ℕ) (q : ℕ) → RunsThrough f b n zs last None → n ≡ Some q → In q zs
@@ -116,11 +136,35 @@ leaves f g first last ys x zs h d r =
     (left_part f g x p n h ys zs first d (λ q at. after_in f (Some x) n zs last q two at) one)
     (right_part f g x p n h ys zs last d (λ q at. before_in f first ys p (Some x) q one at) two)
 
+-- the same where it isn't the first
+pub leaves_behind : (f g : ℕ → Node) (b first last : Option ℕ) (y : ℕ) (ys : List ℕ) (x : ℕ) (zs : List ℕ) → Left f g x (f x).prev (f x).next → Distinct ((y ∷ ys) ++ (x ∷ zs))
+    → RunsThrough f b first ((y ∷ ys) ++ (x ∷ zs)) last None → RunsThrough g b first ((y ∷ ys) ++ zs) (ends last (f x).next (f x).prev) None
+leaves_behind f g b first last y ys x zs h d r =
+    let p = (f x).prev in let n = (f x).next in
+    let s = split f b first (y ∷ ys) (x ∷ zs) last None r in
+    let one : RunsThrough f b first (y ∷ ys) p (Some x) = subst (λ o. RunsThrough f b first (y ∷ ys) p o) s.3.0 (subst (λ o. RunsThrough f b first (y ∷ ys) o s.1) (sym s.3.1) s.2) in
+    let two : RunsThrough f (Some x) n zs last None = s.3.2 in
+    join g b first (y ∷ ys) p n zs (ends last n p) None
+    (front_left f g x p n h b first y ys zs d (λ q at. after_in f (Some x) n zs last q two at) one)
+    (right_part f g x p n h (y ∷ ys) zs last d (λ q at. before_behind f b first y ys p (Some x) q one at) two)
+
 -- g is f where x stands behind p, at the end
 pub record Joined (f g : ℕ → Node) (x : ℕ) (p : Option ℕ) : Type 0 where
   pub here : g x ≡ record { prev = p; next = None }
   pub before : (q : ℕ) → q ≢ x → p ≡ Some q → g q ≡ record (f q) { next = Some x }
   pub other : (z : ℕ) → z ≢ x → p ≢ Some z → g z ≡ f z
+
+-- a run that has cells, with one more at its end
+pub joins_behind : (f g : ℕ → Node) (b first last : Option ℕ) (y : ℕ) (xs : List ℕ) (x : ℕ) → Joined f g x last → Distinct (y ∷ xs) → (In x (y ∷ xs) → ⊥)
+    → RunsThrough f b first (y ∷ xs) last None → RunsThrough g b first (y ∷ (xs ++ x ∷ [])) (Some x) None
+joins_behind f g b first last y xs x h d fresh r =
+    let s = last_in f b first y xs last None r in
+    let not_x : (z : ℕ) → In z (y ∷ xs) → z ≢ x = λ z i same. fresh (subst (λ u. In u (y ∷ xs)) same i) in
+    let front : RunsThrough g b first (y ∷ xs) last (Some x) = relink_end f g b first y xs last None (Some x) r d
+    (λ q same. let i : In q (y ∷ xs) = subst (λ u. In u (y ∷ xs)) (let e : Some s.0 ≡ Some q = sym s.1 ∙ same in cc) s.2 in h.before q (not_x q i) same)
+    (λ z i away. h.other z (not_x z i) away) in
+    let end : RunsThrough g last (Some x) (x ∷ []) (Some x) None = (refl, ap (λ u. u.prev) h.here, (ap (λ u. u.next) h.here, refl)) in
+    join g b first (y ∷ xs) last (Some x) (x ∷ []) (Some x) None front end
 
 -- a run with one more cell at its end
 pub joins : (f g : ℕ → Node) (first last : Option ℕ) (xs : List ℕ) (x : ℕ) → Joined f g x last → Distinct xs → (In x xs → ⊥)
@@ -129,13 +173,8 @@ joins f g first last [] x h d fresh r =
     (ap (λ o. begins first o (Some x)) r.1, ap (λ u. u.prev) h.here ∙ r.1, (ap (λ u. u.next) h.here, refl))
 joins f g first last (y ∷ xs) x h d fresh r =
     let s = last_in f None first y xs last None r in
-    let not_x : (z : ℕ) → In z (y ∷ xs) → z ≢ x = λ z i same. fresh (subst (λ u. In u (y ∷ xs)) same i) in
-    let a : RunsThrough g None first (y ∷ xs) last (Some x) = relink_end f g None first y xs last None (Some x) r d
-    (λ q same. let i : In q (y ∷ xs) = subst (λ u. In u (y ∷ xs)) (let e : Some s.0 ≡ Some q = sym s.1 ∙ same in cc) s.2 in h.before q (not_x q i) same)
-    (λ z i away. h.other z (not_x z i) away) in
-    let b : RunsThrough g last (Some x) (x ∷ []) (Some x) None = (refl, ap (λ u. u.prev) h.here, (ap (λ u. u.next) h.here, refl)) in
     let keeps : begins first last (Some x) ≡ first = ap (λ o. begins first o (Some x)) s.1 in
-    subst (λ o. RunsThrough g None o (y ∷ (xs ++ x ∷ [])) (Some x) None) (sym keeps) (join g None first (y ∷ xs) last (Some x) (x ∷ []) (Some x) None a b)
+    subst (λ o. RunsThrough g None o (y ∷ (xs ++ x ∷ [])) (Some x) None) (sym keeps) (joins_behind f g None first last y xs x h d fresh r)
 
 -- g is f where x stands behind p and before a
 pub record Between (f g : ℕ → Node) (x : ℕ) (p : Option ℕ) (a : ℕ) : Type 0 where
@@ -145,18 +184,33 @@ pub record Between (f g : ℕ → Node) (x : ℕ) (p : Option ℕ) (a : ℕ) : T
   pub other : (z : ℕ) → z ≢ x → p ≢ Some z → z ≢ a → g z ≡ f z
 
 module _ (f g : ℕ → Node) (x : ℕ) (p : Option ℕ) (a : ℕ) (h : Between f g x p a) where
+  -- the part before it, where there is one
+  front_before : (b first : Option ℕ) (y : ℕ) (ys zs : List ℕ) → Distinct ((y ∷ ys) ++ (a ∷ zs)) → (In x ((y ∷ ys) ++ (a ∷ zs)) → ⊥) → RunsThrough f b first (y ∷ ys) p (Some a) → RunsThrough g b first (y ∷ ys) p (Some x)
+  front_before b first y ys zs d fresh r =
+      let s = last_in f b first y ys p (Some a) r in
+      let not_x : (z : ℕ) → In z (y ∷ ys) → z ≢ x = λ z i same. fresh (subst (λ u. In u ((y ∷ ys) ++ (a ∷ zs))) same (in_left z (y ∷ ys) (a ∷ zs) i)) in
+      let not_a : (z : ℕ) → In z (y ∷ ys) → z ≢ a = λ z i. apart (y ∷ ys) (a ∷ zs) z a d i (inl refl) in
+      relink_end f g b first y ys p (Some a) (Some x) r (distinct_left (y ∷ ys) (a ∷ zs) d)
+      (λ q at. let i : In q (y ∷ ys) = subst (λ u. In u (y ∷ ys)) (let e : Some s.0 ≡ Some q = sym s.1 ∙ at in cc) s.2 in h.before q (not_x q i) at)
+      (λ z i away. h.other z (not_x z i) away (not_a z i))
+
   -- the part before it
   front_part : (ys zs : List ℕ) (first : Option ℕ) → Distinct (ys ++ (a ∷ zs)) → (In x (ys ++ (a ∷ zs)) → ⊥) → RunsThrough f None first ys p (Some a) → RunsThrough g None (begins first p (Some x)) ys p (Some x)
   front_part [] zs first d fresh r = (ap (λ o. begins first o (Some x)) r.1, r.1)
   front_part (y ∷ ys) zs first d fresh r =
       let s = last_in f None first y ys p (Some a) r in
       let keeps : begins first p (Some x) ≡ first = ap (λ o. begins first o (Some x)) s.1 in
-      let not_x : (z : ℕ) → In z (y ∷ ys) → z ≢ x = λ z i same. fresh (subst (λ u. In u ((y ∷ ys) ++ (a ∷ zs))) same (in_left z (y ∷ ys) (a ∷ zs) i)) in
-      let not_a : (z : ℕ) → In z (y ∷ ys) → z ≢ a = λ z i. apart (y ∷ ys) (a ∷ zs) z a d i (inl refl) in
-      subst (λ o. RunsThrough g None o (y ∷ ys) p (Some x)) (sym keeps)
-      (relink_end f g None first y ys p (Some a) (Some x) r (distinct_left (y ∷ ys) (a ∷ zs) d)
-      (λ q at. let i : In q (y ∷ ys) = subst (λ u. In u (y ∷ ys)) (let e : Some s.0 ≡ Some q = sym s.1 ∙ at in cc) s.2 in h.before q (not_x q i) at)
-      (λ z i away. h.other z (not_x z i) away (not_a z i)))
+      subst (λ o. RunsThrough g None o (y ∷ ys) p (Some x)) (sym keeps) (front_before None first y ys zs d fresh r)
+
+  -- the part from it on
+  back_part : (ys zs : List ℕ) (last : Option ℕ) → Distinct (ys ++ (a ∷ zs)) → (In x (ys ++ (a ∷ zs)) → ⊥) → ((q : ℕ) → p ≡ Some q → In q ys) → RunsThrough f p (Some a) (a ∷ zs) last None → RunsThrough g p (Some x) (x ∷ a ∷ zs) last None
+  back_part ys zs last d fresh before two =
+      let own : Distinct (a ∷ zs) = distinct_right ys (a ∷ zs) d in
+      let not_x : (z : ℕ) → In z zs → z ≢ x = λ z i same. fresh (subst (λ u. In u (ys ++ (a ∷ zs))) same (in_right z ys (a ∷ zs) (inr i))) in
+      let not_a : (z : ℕ) → In z zs → z ≢ a = λ z i same. each_in (λ v. a ≢ v) zs z own.0 i (sym same) in
+      let not_p : (z : ℕ) → In z zs → p ≢ Some z = λ z i same. apart ys (a ∷ zs) z z d (before z same) (inr i) refl in
+      let rest : RunsThrough g (Some x) (Some a) (a ∷ zs) last None = relink_start f g p (Some a) a zs last None (Some x) two h.behind (each_of _ zs (λ z i. h.other z (not_x z i) (not_p z i) (not_a z i))) in
+      (refl, ap (λ u. u.prev) h.here, subst (λ o. RunsThrough g (Some x) o (a ∷ zs) last None) (sym (ap (λ u. u.next) h.here)) rest)
 
 -- a run with one more cell before one of its own
 pub inserts : (f g : ℕ → Node) (first last : Option ℕ) (ys : List ℕ) (x a : ℕ) (zs : List ℕ) → Between f g x (f a).prev a → Distinct (ys ++ (a ∷ zs)) → (In x (ys ++ (a ∷ zs)) → ⊥)
@@ -165,11 +219,15 @@ inserts f g first last ys x a zs h d fresh r =
     let p = (f a).prev in
     let s = split f None first ys (a ∷ zs) last None r in
     let one : RunsThrough f None first ys p (Some a) = subst (λ o. RunsThrough f None first ys p o) s.3.0 (subst (λ o. RunsThrough f None first ys o s.1) (sym s.3.1) s.2) in
-    let two : RunsThrough f p (Some a) (a ∷ zs) last None = (refl, refl, s.3.2) in
-    let own : Distinct (a ∷ zs) = distinct_right ys (a ∷ zs) d in
-    let not_x : (z : ℕ) → In z zs → z ≢ x = λ z i same. fresh (subst (λ u. In u (ys ++ (a ∷ zs))) same (in_right z ys (a ∷ zs) (inr i))) in
-    let not_a : (z : ℕ) → In z zs → z ≢ a = λ z i same. each_in (λ v. a ≢ v) zs z own.0 i (sym same) in
-    let not_p : (z : ℕ) → In z zs → p ≢ Some z = λ z i same. apart ys (a ∷ zs) z z d (before_in f first ys p (Some a) z one same) (inr i) refl in
-    let rest : RunsThrough g (Some x) (Some a) (a ∷ zs) last None = relink_start f g p (Some a) a zs last None (Some x) two h.behind (each_of _ zs (λ z i. h.other z (not_x z i) (not_p z i) (not_a z i))) in
-    let mid : RunsThrough g p (Some x) (x ∷ a ∷ zs) last None = (refl, ap (λ u. u.prev) h.here, subst (λ o. RunsThrough g (Some x) o (a ∷ zs) last None) (sym (ap (λ u. u.next) h.here)) rest) in
-    join g None (begins first p (Some x)) ys p (Some x) (x ∷ a ∷ zs) last None (front_part f g x p a h ys zs first d fresh one) mid
+    join g None (begins first p (Some x)) ys p (Some x) (x ∷ a ∷ zs) last None (front_part f g x p a h ys zs first d fresh one)
+    (back_part f g x p a h ys zs last d fresh (λ q at. before_in f first ys p (Some a) q one at) (refl, refl, s.3.2))
+
+-- the same behind the first
+pub inserts_behind : (f g : ℕ → Node) (b first last : Option ℕ) (y : ℕ) (ys : List ℕ) (x a : ℕ) (zs : List ℕ) → Between f g x (f a).prev a → Distinct ((y ∷ ys) ++ (a ∷ zs)) → (In x ((y ∷ ys) ++ (a ∷ zs)) → ⊥)
+    → RunsThrough f b first ((y ∷ ys) ++ (a ∷ zs)) last None → RunsThrough g b first ((y ∷ ys) ++ (x ∷ a ∷ zs)) last None
+inserts_behind f g b first last y ys x a zs h d fresh r =
+    let p = (f a).prev in
+    let s = split f b first (y ∷ ys) (a ∷ zs) last None r in
+    let one : RunsThrough f b first (y ∷ ys) p (Some a) = subst (λ o. RunsThrough f b first (y ∷ ys) p o) s.3.0 (subst (λ o. RunsThrough f b first (y ∷ ys) o s.1) (sym s.3.1) s.2) in
+    join g b first (y ∷ ys) p (Some x) (x ∷ a ∷ zs) last None (front_before f g x p a h b first y ys zs d fresh one)
+    (back_part f g x p a h (y ∷ ys) zs last d fresh (λ q at. before_behind f b first y ys p (Some a) q one at) (refl, refl, s.3.2))

@@ -1,7 +1,7 @@
 -- Cells: what the words of a row stand for.
-use Rattle.std.specs.Prelude.{◌≡◌, ◌⊎◌, ℕ, zero, suc, ◌==◌, ◌<◌, ◌^◌, List, [], ◌∷◌, ◌++◌, length, take, drop, Option, Some, None, IsSome, if◌then◌else◌, slice_index_or, slice_set, replicate}
+use Rattle.std.specs.Prelude.{◌≡◌, ◌⊎◌, Bool, true, false, ℕ, zero, suc, ◌==◌, ◌<◌, ◌^◌, List, [], ◌∷◌, ◌++◌, length, take, drop, Option, Some, None, IsSome, if◌then◌else◌, slice_index_or, slice_set, replicate}
 use denote.RawPtr.{Ptr, block_ptr, null_ptr}
-use Rattle.lmn_web_cells.specs.Rows.{Item, link, number, halves, halves_in, Row, items_in, place_of, place_ptr}
+use Rattle.lmn_web_cells.specs.Rows.{Item, blank, link, number, halves, halves_in, Row, items_in, place_of, place_ptr}
 
 -- a port: the cell to which it leads, the port there, and a mark
 pub record HeldPort : Type 0 where
@@ -9,7 +9,7 @@ pub record HeldPort : Type 0 where
   pub port : ℕ
   pub mark : ℕ
 
--- a cell: eight links, six numbers or, of a membrane, eight, and its ports, of which a membrane has one
+-- a cell: eight links, six numbers or, of a membrane, eight, and its ports, of which a membrane has one; the last link of an atom leads nowhere
 pub record HeldCell : Type 0 where
   pub links : List (Option ℕ)
   pub numbers : List ℕ
@@ -44,9 +44,14 @@ abbrev pub first_items : List ℕ → List Item
 first_items (a ∷ b ∷ ns) = halves a b ∷ number_items ns
 first_items _ = []
 
--- The words of a cell: its links, six numbers, its ports, and the last two numbers of a membrane.
+-- the words at the end of a membrane's row: its last two numbers and its last link
+abbrev pub end_items : Option ℕ → List ℕ → List Item
+end_items x [] = []
+end_items x (n ∷ ns) = number_items (n ∷ ns) ++ link_to x ∷ []
+
+-- The words of a cell: seven links, six numbers, its ports, and the words at the end of a membrane's row.
 abbrev pub cell_items : HeldCell → List Item
-cell_items c = link_items c.links ++ (first_items (take 6 c.numbers) ++ (port_items c.ports ++ number_items (drop 6 c.numbers)))
+cell_items c = link_items (take 7 c.links) ++ (first_items (take 6 c.numbers) ++ (port_items c.ports ++ end_items (slice_index_or c.links 7 None) (drop 6 c.numbers)))
 
 -- Reading the words
 
@@ -84,28 +89,42 @@ abbrev pub numbers_by : List Item → List ℕ
 numbers_by (i ∷ j ∷ k ∷ l ∷ m ∷ is) = half_by i 0 ∷ half_by i 1 ∷ number_by j ∷ number_by k ∷ number_by l ∷ number_by m ∷ []
 numbers_by _ = []
 
+-- a word that was written, and not as a pointer
+abbrev pub is_number : Item → Bool
+is_number None = false
+is_number (Some (None, n)) = true
+is_number (Some (Some p, n)) = false
+
+-- ports begin with a pointer, and what stands behind those of a membrane with a number
 abbrev pub ports_by : List Item → List HeldPort
 ports_by [] = []
 ports_by (i ∷ []) = []
 ports_by (i ∷ j ∷ []) = []
-ports_by (i ∷ j ∷ k ∷ is) = record { to = led_to i; port = number_by j; mark = number_by k } ∷ ports_by is
+ports_by (i ∷ j ∷ k ∷ is) = if is_number i then [] else record { to = led_to i; port = number_by j; mark = number_by k } ∷ ports_by is
 
--- the two numbers at the end of a membrane's row, which has 18 words: that of an atom has 13 and three for each port
+-- a membrane has a number behind its first port, and no atom has
+abbrev pub is_membrane : List Item → Bool
+is_membrane is = is_number (slice_index_or is 15 blank)
+
+-- the two numbers and the link at the end of a membrane's row
 abbrev pub last_numbers : List Item → List ℕ
-last_numbers is = if length is == 18 then first_numbers 2 (drop 16 is) else []
+last_numbers is = if is_membrane is then first_numbers 2 (drop 15 is) else []
+
+abbrev pub last_link : List Item → Option ℕ
+last_link is = if is_membrane is then led_to (slice_index_or is 17 blank) else None
 
 abbrev pub cell_by : List Item → Option HeldCell
 cell_by [] = None
-cell_by (i ∷ is) = Some record { links = first_links 8 (i ∷ is); numbers = numbers_by (drop 8 (i ∷ is)) ++ last_numbers (i ∷ is); ports = ports_by (drop 13 (i ∷ is)) }
+cell_by (i ∷ is) = Some record { links = first_links 7 (i ∷ is) ++ last_link (i ∷ is) ∷ []; numbers = numbers_by (drop 7 (i ∷ is)) ++ last_numbers (i ∷ is); ports = ports_by (drop 12 (i ∷ is)) }
 
 -- the cell of each number
 abbrev pub cells_by : List Row → ℕ → Option HeldCell
 cells_by rows b = cell_by (items_in rows b)
 
--- a cell has eight links, six numbers or eight and one port, of which the first two are small, and fewer than 2 ^ 16 ports
+-- A cell has eight links. An atom has six numbers, and its last link leads nowhere; a membrane has eight and one port. The first two numbers are small, and there are fewer than 2 ^ 16 ports.
 pub record IsShaped (c : HeldCell) : Type 0 where
   pub links : length c.links ≡ 8
-  pub numbers : (length c.numbers ≡ 6) ⊎ ((length c.numbers ≡ 8) × (length c.ports ≡ 1))
+  pub numbers : ((length c.numbers ≡ 6) × (slice_index_or c.links 7 None ≡ None)) ⊎ ((length c.numbers ≡ 8) × (length c.ports ≡ 1))
   pub small : (k : ℕ) → k < 2 → slice_index_or c.numbers k 0 < 2 ^ 32
   pub few : length c.ports < 2 ^ 16
 
@@ -135,6 +154,14 @@ no_port = record { to = None; port = 0; mark = 0 }
 
 abbrev pub port_of : Option HeldCell → ℕ → HeldPort
 port_of c j = slice_index_or (ports_of c) j no_port
+
+-- a word of a cell is a link: one of the first seven, or the last one of a membrane
+abbrev pub IsLinkWord : Option HeldCell → ℕ → Type 0
+IsLinkWord c word = (word < 7) ⊎ ((word ≡ 17) × (length (numbers_of c) ≡ 8))
+
+-- the link in a word
+abbrev pub link_of : ℕ → ℕ
+link_of word = if word == 17 then 7 else word
 
 -- Changes of a cell
 

@@ -22,19 +22,16 @@ MEMBRANES = 5
 abbrev pub LEADERS : ℕ
 LEADERS = 7
 
--- of an atom, to the next and the previous one of its class, and, of the first one of a class, to the last one of it
+-- of an atom, to the next and the previous one of its class; that of the first one of a class leads to the last one
 abbrev pub CLASS_NEXT : ℕ
 CLASS_NEXT = 3
 
 abbrev pub CLASS_PREV : ℕ
 CLASS_PREV = 4
 
-abbrev pub CLASS_LAST : ℕ
-CLASS_LAST = 5
-
 -- of the first one of a class, to those of other classes, on its even and on its odd side
 abbrev pub EVEN : ℕ
-EVEN = 6
+EVEN = 5
 
 abbrev pub ODD : ℕ
-ODD = 7
+ODD = 6

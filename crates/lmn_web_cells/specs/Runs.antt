@@ -29,7 +29,7 @@ node_in f a = record { prev = link_in f a PREV; next = link_in f a NEXT }
 pub record IsHome (f : ℕ → Option HeldCell) (m e : ℕ) : Type 0 where
   pub there : IsSome (f m)
   pub behind : PREV < e
-  pub below : e + 1 < 8
+  pub below : e + 1 < 7
 
 -- xs is the list that begins at the link e of m and ends at the next one
 pub record Line (f : ℕ → Option HeldCell) (m e : ℕ) (xs : List ℕ) : Type 0 where

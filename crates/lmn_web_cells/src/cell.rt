@@ -1,13 +1,14 @@
-//! Cells: rows with eight links, six numbers, of which two have half a word each, and three words for each port, of which a membrane has one, and behind it two
-//! numbers more.
+//! Cells: rows with seven links, six numbers, of which two have half a word each, and three words for each port, of which a membrane has one, and behind it two
+//! numbers and a link more.
 ghost use Rattle.std.specs.Prelude.{◌≡◌, ℕ, ◌+◌, ◌*◌, ◌^◌, ◌<◌, ◌≤◌, ◌∷◌, length, IsSome, None, Some, MatchResult, slice_index_or};
 ghost use Rattle.std.specs.Option.{option_map};
-ghost use Rattle.lmn_web_cells.specs.Cells.{cells_by, links_of, numbers_of, ports_of, port_of, with_link, with_number, with_to, with_port, with_mark, pointer_to, blank_cell, blank_membrane, HaveLinks};
+ghost use Rattle.lmn_web_cells.specs.Cells.{cells_by, links_of, numbers_of, ports_of, port_of, with_link, with_number, with_to, with_port, with_mark, pointer_to, blank_cell, blank_membrane, HaveLinks, IsLinkWord, link_of};
 ghost use Rattle.lmn_store_heap.specs.Heap.{alter};
 ghost use Rattle.lmn_web_cells.specs.CellIds.{cell_id, IsLink, led_by};
 
 use crate::filling::{
-    FIRST_PORT, LINKS, MEMBRANE_WORDS, PORT_WORDS, SMALL_NUMBERS, atom_words, fill, fill_membrane,
+    FIRST_PORT, LAST_LINK_WORD, LINKS, MEMBRANE_WORDS, PORT_WORDS, SMALL_NUMBERS, atom_words, fill,
+    fill_membrane,
 };
 use crate::handle::Cell;
 use lmn_web_rows::pointers::{is_nowhere, nowhere};
@@ -107,29 +108,47 @@ impl Cells {
         self.rows.keep(c.at, MEMBRANE_WORDS);
     }
 
-    /// Each cell has eight links.
+    /// Each cell has eight links, of which an atom's last one leads nowhere.
     pub fn whole(&self)
         ensures { HaveLinks (cells_by self.now) }
     {
         let _ = &self.rows;
     }
 
-    /// The cell to which a link leads.
+    /// The cell to which a link that each cell has leads.
     pub fn link(&self, c: Cell, k: usize) -> Option<Cell>
         requires there { IsSome (cells_by self.now (cell_id c)) }
-        requires below { k < 8 }
+        requires below { k < 7 }
         ensures { slice_index_or (links_of (cells_by self.now (cell_id c))) k None ≡ option_map cell_id result }
     {
         cell_from(self.rows.link(c.at, k))
     }
 
-    /// A link leads elsewhere.
+    /// A link that each cell has leads elsewhere.
     pub fn set_link(&mut self, c: Cell, k: usize, to: Option<Cell>)
         requires there { IsSome (cells_by self.old (cell_id c)) }
-        requires below { k < 8 }
+        requires below { k < 7 }
         ensures { cells_by self.new ≡ alter (cells_by self.old) (cell_id c) (option_map (with_link k (option_map cell_id to))) }
     {
         self.rows.set_link(c.at, k, pointer_of(to));
+    }
+
+    /// The cell to which the last link leads, which only membranes have.
+    pub fn last_link(&self, c: Cell) -> Option<Cell>
+        requires there { IsSome (cells_by self.now (cell_id c)) }
+        requires numbers { length (numbers_of (cells_by self.now (cell_id c))) ≡ 8 }
+        ensures { slice_index_or (links_of (cells_by self.now (cell_id c))) 7 None ≡ option_map cell_id result }
+    {
+        cell_from(self.rows.link(c.at, LAST_LINK_WORD))
+    }
+
+    /// The link in a word of a cell leads elsewhere: one that each cell has, or the last one of a membrane.
+    pub fn set_link_in(&mut self, c: Cell, word: usize, to: Option<Cell>)
+        requires there { IsSome (cells_by self.old (cell_id c)) }
+        requires word { IsLinkWord (cells_by self.old (cell_id c)) word }
+        ensures { cells_by self.new ≡ alter (cells_by self.old) (cell_id c) (option_map (with_link (link_of word) (option_map cell_id to))) }
+    {
+        self.rows.set_link(c.at, word, pointer_of(to));
     }
 
     /// A number that each cell has.

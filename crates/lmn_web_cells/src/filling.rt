@@ -7,8 +7,8 @@ ghost use Rattle.lmn_web_cells.specs.Cells.{link_items, number_items, cell_items
 use lmn_web_rows::pointers::nowhere;
 use lmn_web_rows::store::Store;
 
-/// How many links a cell has.
-pub const LINKS: usize = 8;
+/// How many links each cell has.
+pub const LINKS: usize = 7;
 
 /// How many numbers, the first ones, are below 2^32 and stand two in a word.
 pub const SMALL_NUMBERS: usize = 2;
@@ -22,14 +22,17 @@ pub const FIRST_PORT: usize = LINKS + NUMBER_WORDS;
 /// How many words a port has.
 pub const PORT_WORDS: usize = 3;
 
-/// How many words the cell of a membrane has: a port and two numbers stand behind the first ones.
-pub const MEMBRANE_WORDS: usize = FIRST_PORT + PORT_WORDS + 2;
+/// The word of a membrane that is its last link: a port and two numbers stand before it.
+pub const LAST_LINK_WORD: usize = FIRST_PORT + PORT_WORDS + 2;
+
+/// How many words the cell of a membrane has.
+pub const MEMBRANE_WORDS: usize = LAST_LINK_WORD + 1;
 
 /// How many words the cell of an atom with so many ports has.
 #[inline(always)]
 pub fn atom_words(ports: usize) -> usize
     requires { ports < 2 ^ 16 }
-    ensures { result ≡ 13 + ports * 3 }
+    ensures { result ≡ 12 + ports * 3 }
 {
     FIRST_PORT + ports * PORT_WORDS
 }
@@ -37,8 +40,8 @@ pub fn atom_words(ports: usize) -> usize
 // Each link leads nowhere. `left` words stand behind the links.
 fn fill_links(rows: &mut Store, at: *mut u8, left: usize)
     requires start { IsStart at }
-    requires words { items_in rows.old.rows (place_of at) ≡ replicate (8 + left) blank }
-    ensures { rows.new.rows ≡ with_items (place_of at) (blank_links 8 ++ replicate left blank) rows.old.rows }
+    requires words { items_in rows.old.rows (place_of at) ≡ replicate (7 + left) blank }
+    ensures { rows.new.rows ≡ with_items (place_of at) (blank_links 7 ++ replicate left blank) rows.old.rows }
 {
     let _ = left;
     for k in 0..LINKS {
@@ -50,8 +53,8 @@ fn fill_links(rows: &mut Store, at: *mut u8, left: usize)
 #[inline(always)]
 fn fill_numbers(rows: &mut Store, at: *mut u8, left: usize)
     requires start { IsStart at }
-    requires words { items_in rows.old.rows (place_of at) ≡ blank_links 8 ++ replicate (5 + left) blank }
-    ensures { rows.new.rows ≡ with_items (place_of at) (blank_links 8 ++ (blank_numbers ++ replicate left blank)) rows.old.rows }
+    requires words { items_in rows.old.rows (place_of at) ≡ blank_links 7 ++ replicate (5 + left) blank }
+    ensures { rows.new.rows ≡ with_items (place_of at) (blank_links 7 ++ (blank_numbers ++ replicate left blank)) rows.old.rows }
 {
     let _ = left;
     rows.set_half(at, 2 * LINKS, 0);
@@ -93,7 +96,7 @@ fn fill_from(rows: &mut Store, at: *mut u8, ports: usize, first: usize)
 fn fill_ports(rows: &mut Store, at: *mut u8, ports: usize)
     requires start { IsStart at }
     requires few { ports < 2 ^ 16 }
-    requires words { items_in rows.old.rows (place_of at) ≡ blank_links 8 ++ (blank_numbers ++ replicate (ports * 3) blank) }
+    requires words { items_in rows.old.rows (place_of at) ≡ blank_links 7 ++ (blank_numbers ++ replicate (ports * 3) blank) }
     ensures { rows.new.rows ≡ with_items (place_of at) (cell_items (blank_cell ports)) rows.old.rows }
 {
     if ports == 0 {
@@ -115,7 +118,7 @@ fn fill_ports(rows: &mut Store, at: *mut u8, ports: usize)
 pub fn fill(rows: &mut Store, at: *mut u8, ports: usize)
     requires start { IsStart at }
     requires few { ports < 2 ^ 16 }
-    requires words { items_in rows.old.rows (place_of at) ≡ replicate (13 + ports * 3) blank }
+    requires words { items_in rows.old.rows (place_of at) ≡ replicate (12 + ports * 3) blank }
     ensures { rows.new.rows ≡ with_items (place_of at) (cell_items (blank_cell ports)) rows.old.rows }
 {
     fill_links(rows, at, NUMBER_WORDS + ports * PORT_WORDS);
@@ -123,10 +126,10 @@ pub fn fill(rows: &mut Store, at: *mut u8, ports: usize)
     fill_ports(rows, at, ports);
 }
 
-// The port of a membrane leads nowhere, and the numbers behind it are 0.
+// The port of a membrane leads nowhere, the numbers behind it are 0, and its last link leads nowhere.
 fn fill_end(rows: &mut Store, at: *mut u8)
     requires start { IsStart at }
-    requires words { items_in rows.old.rows (place_of at) ≡ blank_links 8 ++ (blank_numbers ++ replicate 5 blank) }
+    requires words { items_in rows.old.rows (place_of at) ≡ blank_links 7 ++ (blank_numbers ++ replicate 6 blank) }
     ensures { rows.new.rows ≡ with_items (place_of at) (cell_items blank_membrane) rows.old.rows }
 {
     rows.set_link(at, FIRST_PORT, nowhere());
@@ -134,6 +137,7 @@ fn fill_end(rows: &mut Store, at: *mut u8)
     rows.set_number(at, FIRST_PORT + 2, 0);
     rows.set_number(at, FIRST_PORT + PORT_WORDS, 0);
     rows.set_number(at, FIRST_PORT + PORT_WORDS + 1, 0);
+    rows.set_link(at, LAST_LINK_WORD, nowhere());
 }
 
 /// A new row becomes the cell of a membrane in which nothing is set.
@@ -142,7 +146,7 @@ pub fn fill_membrane(rows: &mut Store, at: *mut u8)
     requires words { items_in rows.old.rows (place_of at) ≡ replicate 18 blank }
     ensures { rows.new.rows ≡ with_items (place_of at) (cell_items blank_membrane) rows.old.rows }
 {
-    fill_links(rows, at, NUMBER_WORDS + PORT_WORDS + 2);
-    fill_numbers(rows, at, PORT_WORDS + 2);
+    fill_links(rows, at, NUMBER_WORDS + PORT_WORDS + 3);
+    fill_numbers(rows, at, PORT_WORDS + 3);
     fill_end(rows, at);
 }

@@ -1,4 +1,4 @@
-//! The links of a cell, by where they lead. Behind the first three an atom has others than a membrane.
+//! The links of a cell, by where they lead. Behind the first three an atom has others than a membrane, which has one more.
 
 /// The link to the membrane in a list of which the cell stands.
 pub const HOME: usize = 0;
@@ -15,20 +15,17 @@ pub const ATOMS: usize = 3;
 /// The link of a membrane to the first of its membranes. The link behind it leads to the last one.
 pub const MEMBRANES: usize = 5;
 
-/// The link of a membrane to the first atom of a class.
-pub const LEADERS: usize = 7;
+/// The word of the last link of a membrane, to the first atom of a class.
+pub const LEADERS_WORD: usize = 17;
 
 /// The link of an atom to the next one of its class.
 pub const CLASS_NEXT: usize = 3;
 
-/// The link of an atom to the previous one of its class.
+/// The link of an atom to the previous one of its class, and of the first one of a class to the last one of it.
 pub const CLASS_PREV: usize = 4;
 
-/// The link of the first atom of a class to the last one of it.
-pub const CLASS_LAST: usize = 5;
-
 /// The link of the first atom of a class to those of other classes on its even side.
-pub const EVEN: usize = 6;
+pub const EVEN: usize = 5;
 
 /// The link of the first atom of a class to those of other classes on its odd side.
-pub const ODD: usize = 7;
+pub const ODD: usize = 6;

@@ -4,17 +4,17 @@ use Rattle.lmn_web_cells.proofs.FillLemmas.{links_begin, links_there, links_step
 use Rattle.lmn_web_cells.proofs.filling.fill_links.Goals as goal
 
 pub loop-k-init : goal.loop-k-init
-loop-k-init c = links_begin c.args.rows.now.rows (place_of c.args.at) (8 + c.args.left) (omega arith) c.requires.words
+loop-k-init c = links_begin c.args.rows.now.rows (place_of c.args.at) (7 + c.args.left) (omega arith) c.requires.words
 
 pub set_link-requires : goal.set_link-requires
 set_link-requires c =
     let low = c.loop-k-test.true in
-    (c.requires.start, omega (arith, low), links_there c.args.rows.now.rows c.loop-k.rows.rows (place_of c.args.at) (8 + c.args.left) c.loop-k.k c.loop-k.invariant (omega (arith, low)))
+    (c.requires.start, omega (arith, low), links_there c.args.rows.now.rows c.loop-k.rows.rows (place_of c.args.at) (7 + c.args.left) c.loop-k.k c.loop-k.invariant (omega (arith, low)))
 
 pub loop-k-preserved : goal.loop-k-preserved
 loop-k-preserved c =
     let b = place_of c.args.at in let rows = c.loop-k.rows.rows in let low = c.loop-k-test.true in
-    links_step c.args.rows.now.rows rows c.set_link.new.self.rows b (8 + c.args.left) c.loop-k.k c.loop-k.invariant (omega (arith, low))
+    links_step c.args.rows.now.rows rows c.set_link.new.self.rows b (7 + c.args.left) c.loop-k.k c.loop-k.invariant (omega (arith, low))
     (c.set_link.ensures ∙ ap (λ p. with_items b (set (items_in rows b) c.loop-k.k (link p)) rows) c.nowhere.ensures)
 
 pub returns : goal.returns

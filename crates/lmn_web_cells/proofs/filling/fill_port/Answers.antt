@@ -11,15 +11,15 @@ set_link-requires c =
 pub set_number-requires : goal.set_number-requires
 set_number-requires c =
     let old = c.args.rows.now.rows in let b = place_of c.args.at in let p = c.args.ports in let j = c.args.j in let low = c.requires.below in let few = c.requires.few in
-    (c.requires.start, omega (arith, low, few), second_there old c.set_link.new.self.rows b p j (first_word old old c.set_link.new.self.rows b p j (ports_begin old b p j low c.requires.words) low (c.set_link.ensures ∙ ap (λ q. with_items b (set (items_in old b) (13 + j * 3) (link q)) old) c.nowhere.ensures)) low)
+    (c.requires.start, omega (arith, low, few), second_there old c.set_link.new.self.rows b p j (first_word old old c.set_link.new.self.rows b p j (ports_begin old b p j low c.requires.words) low (c.set_link.ensures ∙ ap (λ q. with_items b (set (items_in old b) (12 + j * 3) (link q)) old) c.nowhere.ensures)) low)
 
 pub set_number-requires-2 : goal.set_number-requires-2
 set_number-requires-2 c =
     let old = c.args.rows.now.rows in let b = place_of c.args.at in let p = c.args.ports in let j = c.args.j in let low = c.requires.below in let few = c.requires.few in
-    (c.requires.start, omega (arith, low, few), third_there old c.set_number.new.self.rows b p j (second_word old c.set_link.new.self.rows c.set_number.new.self.rows b p j (first_word old old c.set_link.new.self.rows b p j (ports_begin old b p j low c.requires.words) low (c.set_link.ensures ∙ ap (λ q. with_items b (set (items_in old b) (13 + j * 3) (link q)) old) c.nowhere.ensures)) low c.set_number.ensures) low)
+    (c.requires.start, omega (arith, low, few), third_there old c.set_number.new.self.rows b p j (second_word old c.set_link.new.self.rows c.set_number.new.self.rows b p j (first_word old old c.set_link.new.self.rows b p j (ports_begin old b p j low c.requires.words) low (c.set_link.ensures ∙ ap (λ q. with_items b (set (items_in old b) (12 + j * 3) (link q)) old) c.nowhere.ensures)) low c.set_number.ensures) low)
 
 pub returns : goal.returns
 returns c =
     let old = c.args.rows.now.rows in let b = place_of c.args.at in let p = c.args.ports in let j = c.args.j in let low = c.requires.below in let few = c.requires.few in
     ports_are old c.set_number-2.new.self.rows b p (j + 1)
-    (third_word old c.set_number.new.self.rows c.set_number-2.new.self.rows b p j (second_word old c.set_link.new.self.rows c.set_number.new.self.rows b p j (first_word old old c.set_link.new.self.rows b p j (ports_begin old b p j low c.requires.words) low (c.set_link.ensures ∙ ap (λ q. with_items b (set (items_in old b) (13 + j * 3) (link q)) old) c.nowhere.ensures)) low c.set_number.ensures) low c.set_number-2.ensures)
+    (third_word old c.set_number.new.self.rows c.set_number-2.new.self.rows b p j (second_word old c.set_link.new.self.rows c.set_number.new.self.rows b p j (first_word old old c.set_link.new.self.rows b p j (ports_begin old b p j low c.requires.words) low (c.set_link.ensures ∙ ap (λ q. with_items b (set (items_in old b) (12 + j * 3) (link q)) old) c.nowhere.ensures)) low c.set_number.ensures) low c.set_number-2.ensures)

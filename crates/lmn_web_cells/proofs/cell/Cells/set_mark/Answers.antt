@@ -30,10 +30,10 @@ set_number-requires c =
 pub invariant_of-self : goal.invariant_of-self
 invariant_of-self c =
     let there : IsSome (cells_by c.self.inside.rows.rows (cell_id c.args.c)) = subst (λ (z : List Row). IsSome (cells_by z (cell_id c.args.c))) (sym c.self.view_is) c.requires.there in let low : c.args.j < length (ports_of (cells_by c.self.inside.rows.rows (cell_id c.args.c))) = subst (λ (z : List Row). c.args.j < length (ports_of (cells_by z (cell_id c.args.c)))) (sym c.self.view_is) c.requires.below in
-    laid_after c.self.inside.rows.rows _ (cell_id c.args.c) (13 + (c.args.j * 3 + 2)) (number c.args.n) (number c.args.n) (with_mark c.args.j c.args.n) (mark_changes c.self.inside.rows.rows (cell_id c.args.c) c.args.j c.args.n c.self.invariant there low) refl c.set_number.ensures
+    laid_after c.self.inside.rows.rows _ (cell_id c.args.c) (12 + (c.args.j * 3 + 2)) (number c.args.n) (number c.args.n) (with_mark c.args.j c.args.n) (mark_changes c.self.inside.rows.rows (cell_id c.args.c) c.args.j c.args.n c.self.invariant there low) refl c.set_number.ensures
 
 pub returns : goal.returns
 returns c =
     let there : IsSome (cells_by c.self.inside.rows.rows (cell_id c.args.c)) = subst (λ (z : List Row). IsSome (cells_by z (cell_id c.args.c))) (sym c.self.view_is) c.requires.there in let low : c.args.j < length (ports_of (cells_by c.self.inside.rows.rows (cell_id c.args.c))) = subst (λ (z : List Row). c.args.j < length (ports_of (cells_by z (cell_id c.args.c)))) (sym c.self.view_is) c.requires.below in
-    cells_after c.self.inside.rows.rows _ (cell_id c.args.c) (13 + (c.args.j * 3 + 2)) (number c.args.n) (number c.args.n) (with_mark c.args.j c.args.n) (mark_changes c.self.inside.rows.rows (cell_id c.args.c) c.args.j c.args.n c.self.invariant there low) refl c.set_number.ensures
+    cells_after c.self.inside.rows.rows _ (cell_id c.args.c) (12 + (c.args.j * 3 + 2)) (number c.args.n) (number c.args.n) (with_mark c.args.j c.args.n) (mark_changes c.self.inside.rows.rows (cell_id c.args.c) c.args.j c.args.n c.self.invariant there low) refl c.set_number.ensures
     ∙ ap (λ (z : List Row). alter (cells_by z) (cell_id c.args.c) (option_map (with_mark c.args.j c.args.n))) c.self.view_is

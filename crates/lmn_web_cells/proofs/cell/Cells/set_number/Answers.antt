@@ -16,13 +16,13 @@ pub invariant_of-self : goal.invariant_of-self
 invariant_of-self c =
     let there : IsSome (cells_by c.self.inside.rows.rows (cell_id c.args.c)) = subst (λ (z : List Row). IsSome (cells_by z (cell_id c.args.c))) (sym c.self.view_is) c.requires.there in
     let low = c.if-k-lt-SMALL_NUMBERS.true in let fits = c.requires.small low in let n = c.args.n in
-    half_laid_after c.self.inside.rows.rows _ (cell_id c.args.c) (16 + c.args.k) n n (with_number c.args.k n) (small_changes c.self.inside.rows.rows (cell_id c.args.c) c.args.k n c.self.invariant there low fits) refl c.set_half.ensures
+    half_laid_after c.self.inside.rows.rows _ (cell_id c.args.c) (14 + c.args.k) n n (with_number c.args.k n) (small_changes c.self.inside.rows.rows (cell_id c.args.c) c.args.k n c.self.invariant there low fits) refl c.set_half.ensures
 
 pub returns-then-k-lt-SMALL_NUMBERS : goal.returns-then-k-lt-SMALL_NUMBERS
 returns-then-k-lt-SMALL_NUMBERS c =
     let there : IsSome (cells_by c.self.inside.rows.rows (cell_id c.args.c)) = subst (λ (z : List Row). IsSome (cells_by z (cell_id c.args.c))) (sym c.self.view_is) c.requires.there in
     let low = c.if-k-lt-SMALL_NUMBERS.true in let fits = c.requires.small low in let n = c.args.n in
-    half_cells_after c.self.inside.rows.rows _ (cell_id c.args.c) (16 + c.args.k) n n (with_number c.args.k n) (small_changes c.self.inside.rows.rows (cell_id c.args.c) c.args.k n c.self.invariant there low fits) refl c.set_half.ensures
+    half_cells_after c.self.inside.rows.rows _ (cell_id c.args.c) (14 + c.args.k) n n (with_number c.args.k n) (small_changes c.self.inside.rows.rows (cell_id c.args.c) c.args.k n c.self.invariant there low fits) refl c.set_half.ensures
     ∙ ap (λ (z : List Row). alter (cells_by z) (cell_id c.args.c) (option_map (with_number c.args.k n))) c.self.view_is
 
 pub set_number-requires : goal.set_number-requires
@@ -34,11 +34,11 @@ pub invariant_of-self-2 : goal.invariant_of-self-2
 invariant_of-self-2 c =
     let there : IsSome (cells_by c.self.inside.rows.rows (cell_id c.args.c)) = subst (λ (z : List Row). IsSome (cells_by z (cell_id c.args.c))) (sym c.self.view_is) c.requires.there in
     let high = c.if-k-lt-SMALL_NUMBERS.false in
-    laid_after c.self.inside.rows.rows _ (cell_id c.args.c) (8 + c.args.k - 1) (number c.args.n) (number c.args.n) (with_number c.args.k c.args.n) (number_changes c.self.inside.rows.rows (cell_id c.args.c) c.args.k c.args.n c.self.invariant there (omega (arith, high)) c.requires.below) refl c.set_number.ensures
+    laid_after c.self.inside.rows.rows _ (cell_id c.args.c) (7 + c.args.k - 1) (number c.args.n) (number c.args.n) (with_number c.args.k c.args.n) (number_changes c.self.inside.rows.rows (cell_id c.args.c) c.args.k c.args.n c.self.invariant there (omega (arith, high)) c.requires.below) refl c.set_number.ensures
 
 pub returns : goal.returns
 returns c =
     let there : IsSome (cells_by c.self.inside.rows.rows (cell_id c.args.c)) = subst (λ (z : List Row). IsSome (cells_by z (cell_id c.args.c))) (sym c.self.view_is) c.requires.there in
     let high = c.if-k-lt-SMALL_NUMBERS.false in
-    cells_after c.self.inside.rows.rows _ (cell_id c.args.c) (8 + c.args.k - 1) (number c.args.n) (number c.args.n) (with_number c.args.k c.args.n) (number_changes c.self.inside.rows.rows (cell_id c.args.c) c.args.k c.args.n c.self.invariant there (omega (arith, high)) c.requires.below) refl c.set_number.ensures
+    cells_after c.self.inside.rows.rows _ (cell_id c.args.c) (7 + c.args.k - 1) (number c.args.n) (number c.args.n) (with_number c.args.k c.args.n) (number_changes c.self.inside.rows.rows (cell_id c.args.c) c.args.k c.args.n c.self.invariant there (omega (arith, high)) c.requires.below) refl c.set_number.ensures
     ∙ ap (λ (z : List Row). alter (cells_by z) (cell_id c.args.c) (option_map (with_number c.args.k c.args.n))) c.self.view_is
