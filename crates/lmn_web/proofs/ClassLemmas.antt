@@ -95,6 +95,14 @@ left_all f p m n t q l = record { depth = 0; tree = t; hangs = q; short = l; dig
 abbrev pub side_of : ℕ → ℕ
 side_of rest = if is_odd rest then ODD else EVEN
 
+-- it is one of the first links
+pub side_small : (rest k : ℕ) → k ≡ side_of rest → k < 7
+side_small rest k e = by (is_odd rest) e
+  where
+    by : (b : Bool) → k ≡ (if b then ODD else EVEN) → k < 7
+    by true s = omega (arith, s)
+    by false s = omega (arith, s)
+
 -- a cell that is passed
 pub left_next : (f : ℕ → Option HeldCell) (p : ℕ × ℕ) (m n holder link rest c : ℕ) → Left f p m n holder link rest (Some c) → is_key (key_in f c) p ≡ false
     → Left f p m n c (side_of rest) (rest / 2) (link_in f c (side_of rest)) × (bulk f n (link_in f c (side_of rest)) < bulk f n (Some c))
@@ -210,13 +218,13 @@ lowest_first c Bare (Fork r x y) = refl
 lowest_first c (Fork r x y) b = refl
 
 -- it is there, and so is what holds it
-hung_lowest : (f : ℕ → Option HeldCell) (h k : ℕ) (t : ClassTree) → IsTree f (link_in f h k) t → IsSome (f h) → k < 8 → (l : ℕ) → (lowest h k t).leader ≡ Some l → IsSome (f l) × IsSome (f (lowest h k t).holder) × ((lowest h k t).link < 8)
+hung_lowest : (f : ℕ → Option HeldCell) (h k : ℕ) (t : ClassTree) → IsTree f (link_in f h k) t → IsSome (f h) → k < 7 → (l : ℕ) → (lowest h k t).leader ≡ Some l → IsSome (f l) × IsSome (f (lowest h k t).holder) × ((lowest h k t).link < 7)
 hung_lowest f h k Bare q s small l e = absurd cc
 hung_lowest f h k (Fork r Bare Bare) q s small l e = (subst (λ z. IsSome (f z)) (let w : r ≡ l = cc in w) q.1, s, small)
 hung_lowest f h k (Fork r Bare (Fork x y z)) q s small l e = hung_lowest f r ODD (Fork x y z) q.3 q.1 (omega arith) l e
 hung_lowest f h k (Fork r (Fork x y z) b) q s small l e = hung_lowest f r EVEN (Fork x y z) q.2 q.1 (omega arith) l e
 
-pub lowest_there : (f : ℕ → Option HeldCell) (c : ℕ) (a b : ClassTree) → IsTree f (link_in f c EVEN) a → IsTree f (link_in f c ODD) b → IsSome (f c) → (l : ℕ) → (lowest_below c a b).leader ≡ Some l → IsSome (f l) × IsSome (f (lowest_below c a b).holder) × ((lowest_below c a b).link < 8)
+pub lowest_there : (f : ℕ → Option HeldCell) (c : ℕ) (a b : ClassTree) → IsTree f (link_in f c EVEN) a → IsTree f (link_in f c ODD) b → IsSome (f c) → (l : ℕ) → (lowest_below c a b).leader ≡ Some l → IsSome (f l) × IsSome (f (lowest_below c a b).holder) × ((lowest_below c a b).link < 7)
 lowest_there f c Bare b q r s l e = hung_lowest f c ODD b r s (omega arith) l e
 lowest_there f c (Fork x y z) b q r s l e = hung_lowest f c EVEN (Fork x y z) q s (omega arith) l e
 

@@ -48,8 +48,8 @@ sorted_top f d x n a b e s = (
 )
 
 -- a link of the tree is none of the others
-pub holds_far : (m : ℕ) (ks : List ℕ) (h k j : ℕ) → Holds m LEADERS ks h k → j ≢ EVEN → j ≢ ODD → j ≢ k
-holds_far m ks h k j o x y e = elim o [ inl s ↦ y (e ∙ s.1) | inr i ↦ elim i.1 [ inl s ↦ x (e ∙ s) | inr s ↦ y (e ∙ s) ] ]
+pub holds_far : (m : ℕ) (ks : List ℕ) (h k j : ℕ) → Holds m LEADERS ks h k → j ≢ EVEN → j ≢ ODD → j ≢ LEADERS → j ≢ k
+holds_far m ks h k j o x y z e = elim o [ inl s ↦ z (e ∙ s.1) | inr i ↦ elim i.1 [ inl s ↦ x (e ∙ s) | inr s ↦ y (e ∙ s) ] ]
 
 pub holds_small : (m : ℕ) (ks : List ℕ) (h k : ℕ) → Holds m LEADERS ks h k → k < 8
 holds_small m ks h k o = elim o [ inl s ↦ (let e = s.1 in omega (arith, e)) | inr i ↦ elim i.1 [ inl s ↦ omega (arith, s) | inr s ↦ omega (arith, s) ] ]
@@ -106,11 +106,11 @@ module _ (f : ℕ → Option HeldCell) (m : ℕ) (xs : List ℕ) (t : ClassTree)
   link_small = holds_small m xs place.holder place.link holds_atoms
 
   -- a write there leaves all links but those of the tree
-  pub place_far : (g : ℕ → Option HeldCell) (v : Option ℕ) (b j : ℕ) → j ≢ EVEN → j ≢ ODD → link_in (link_written g place.holder place.link v) b j ≡ link_in g b j
-  place_far g v b j x y = link_far g place.holder place.link v b j (holds_far m xs place.holder place.link j holds_atoms x y)
+  pub place_far : (g : ℕ → Option HeldCell) (v : Option ℕ) (b j : ℕ) → j ≢ EVEN → j ≢ ODD → j ≢ LEADERS → link_in (link_written g place.holder place.link v) b j ≡ link_in g b j
+  place_far g v b j x y z = link_far g place.holder place.link v b j (holds_far m xs place.holder place.link j holds_atoms x y z)
 
-  pub taken_place : (g : ℕ → Option HeldCell) (x n b j : ℕ) → j ≢ EVEN → j ≢ ODD → link_in (taken_over g place.holder place.link x n) b j ≡ link_in g b j
-  taken_place g x n b j e o = taken_far g place.holder place.link x n b j e o (holds_far m xs place.holder place.link j holds_atoms e o)
+  pub taken_place : (g : ℕ → Option HeldCell) (x n b j : ℕ) → j ≢ EVEN → j ≢ ODD → j ≢ LEADERS → link_in (taken_over g place.holder place.link x n) b j ≡ link_in g b j
+  taken_place g x n b j e o z = taken_far g place.holder place.link x n b j e o (holds_far m xs place.holder place.link j holds_atoms e o z)
 
   -- the first atom of the class
   pub leader_in : (l : ℕ) → top place.tree ≡ Some l → In l (leaders t) × (is_key (key_in f l) p ≡ true)

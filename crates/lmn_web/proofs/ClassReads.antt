@@ -11,8 +11,8 @@ use Rattle.lmn_web.specs.declared.kind.CellKind.TheVariants.{Atom}
 use Rattle.lmn_web.specs.Webs.{web_cell, web_of, list_in, cells_in, label_by, web_label, label_class, is_classed, with_class, partners_of}
 use Rattle.lmn_web_cells.specs.Numbers.{ARITY, HIGH, LOW}
 use Rattle.lmn_web.specs.Indexes.{IsClassedWeb}
-use Rattle.lmn_web.specs.Classes.{class_node, key_in, is_key, of_class, ClassTree, top, AreClassed, place_in}
-use Rattle.lmn_web_cells.specs.Links.{CLASS_NEXT, CLASS_LAST}
+use Rattle.lmn_web.specs.Classes.{class_node, key_in, is_key, of_class, RunsRound, ClassTree, top, AreClassed, place_in}
+use Rattle.lmn_web_cells.specs.Links.{CLASS_NEXT, CLASS_PREV}
 use Rattle.lmn_web.proofs.ListedLemmas.{run_begins, run_goes_on, list_same, cell_of}
 use Rattle.lmn_web.proofs.Reclassing.{key_same, key_true}
 use Rattle.lmn_web.proofs.ClassPlaces.{leader_in, class_none}
@@ -41,14 +41,14 @@ pub class_begins : (f : ℕ → Option HeldCell) (m : ℕ) (xs : List ℕ) (t : 
 class_begins f m xs t c no_m p None e = sym (class_none f m xs t c no_m p e)
 class_begins f m xs t c no_m p (Some l) e =
     let i = leader_in f m xs t c no_m p l e in
-    subst (λ q. from (Some l) (of_class f q xs) ≡ of_class f q xs) (key_true (key_in f l) p i.1) (run_begins (class_node f) None (Some l) (of_class f (key_in f l) xs) (link_in f l CLASS_LAST) (c.runs l i.0))
+    subst (λ q. from (Some l) (of_class f q xs) ≡ of_class f q xs) (key_true (key_in f l) p i.1) (run_begins (class_node f) (link_in f l CLASS_PREV) (Some l) (of_class f (key_in f l) xs) (link_in f l CLASS_PREV) (c.runs l i.0))
 
 -- and goes on
 pub class_goes_on : (f : ℕ → Option HeldCell) (m : ℕ) (xs : List ℕ) (t : ClassTree) → AreClassed f m xs t → Distinct xs → (x : ℕ) → In x xs → from (link_in f x CLASS_NEXT) (of_class f (key_in f x) xs) ≡ after x (of_class f (key_in f x) xs)
 class_goes_on f m xs t c once x i =
     let l = c.every x i in let q = key_in f x in
-    run_goes_on (class_node f) (Some l.0) (link_in f l.0 CLASS_LAST) x (of_class f q xs)
-    (subst (λ p. RunsThrough (class_node f) None (Some l.0) (of_class f p xs) (link_in f l.0 CLASS_LAST) None) l.2 (c.runs l.0 l.1))
+    run_goes_on (class_node f) (link_in f l.0 CLASS_PREV) (Some l.0) (link_in f l.0 CLASS_PREV) x (of_class f q xs)
+    (subst (λ p. RunsRound f l.0 (of_class f p xs)) l.2 (c.runs l.0 l.1))
     (distinct_filter (λ a. is_key (key_in f a) q) xs once) (filter_in (λ a. is_key (key_in f a) q) x xs i (key_same q))
 
 -- the label of a cell tells its class

@@ -3,35 +3,36 @@ use Rattle.std.proofs.Common.{◌≡◌, ◌≢◌, ◌⊎◌, ℕ, suc, Bool, t
 use Rattle.lmn_base.specs.Lists.{In}
 use Rattle.lmn_base.proofs.Lists.{in_either}
 use Rattle.lmn_store_heap.specs.Lists.{Distinct}
-use Rattle.lmn_store_heap.proofs.ListLemmas.{each_in, in_left, in_right, apart}
+use Rattle.lmn_store_heap.proofs.ListLemmas.{each_in, each_of, in_left, in_right, apart}
 use Rattle.lmn_web_cells.specs.Cells.{HeldCell, links_of, HaveLinks}
 use Rattle.lmn_web_cells.specs.Runs.{Node, RunsThrough, link_in}
 use Rattle.lmn_web_cells.proofs.LineLemmas.{link_other}
-use Rattle.lmn_web_cells.proofs.RunLemmas.{Left, Joined, Between, begins, ends, joins, leaves, inserts, split, before_in, after_in}
-use Rattle.lmn_web.specs.Classes.{Touches, ClassTree, Bare, Fork, leaders, top, ClassPlace, IsTree, AreBeside, IsSorted, is_odd, rest_at, class_node, key_in, is_key, of_class, AreClassed, place_in, link_written, taken_over, begun, lengthened, put_between, put_first, closed, shortened, passed, dropped}
-use Rattle.lmn_web_cells.specs.Links.{CLASS_NEXT, CLASS_PREV, CLASS_LAST, EVEN, ODD, LEADERS}
-use Rattle.lmn_web.proofs.Reclassing.{key_same, key_true, reclassed}
+use Rattle.lmn_web_cells.proofs.RunLemmas.{Left, Joined, Between, ends, joins_behind, leaves_behind, inserts_behind, relink_start, split, before_behind, prev_in, after_in}
+use Rattle.lmn_web.specs.Classes.{Touches, ClassTree, Bare, Fork, leaders, top, ClassPlace, IsTree, AreBeside, IsSorted, is_odd, rest_at, class_node, key_in, is_key, of_class, RunsRound, AreClassed, place_in, link_written, taken_over, begun, lengthened, put_between, put_first, closed, shortened, passed, dropped}
+use Rattle.lmn_web_cells.specs.Links.{CLASS_NEXT, CLASS_PREV, EVEN, ODD, LEADERS}
+use Rattle.lmn_web.proofs.Reclassing.{key_same, key_true, run_head, reclassed}
 use Rattle.lmn_web.proofs.ClassTrees.{Holds, Hole, forked, side, side_is, sides_differ, not_both, in_forked, top_forked, forked_sorted, sorted_forked, forked_tree, key_differs, tree_frame, sorted_apart, below_differs, beside_not}
 use Rattle.lmn_web.proofs.ClassWrites.{kept, length_kept, touches_none, touches_own, touches_tree, touches_keys, touches_there}
 use Rattle.lmn_web.proofs.ClassPlaces.{link_at, link_far, link_by, bare_of, sorted_top, holds_small, holds_there, holds_more, touches_taken, at, outer_in, tree_in, holds_atoms, link_small, place_far, taken_place, leader_in, fill_stay, fill_were, fill_sorted, fill_heads, taken_tree}
 use Rattle.lmn_store_heap.proofs.Filters.{in_filter, distinct_filter}
 
 -- no link to other classes is one of a class
-not_side : (j : ℕ) → (j ≡ EVEN) ⊎ (j ≡ ODD) → (j ≡ CLASS_NEXT) ⊎ ((j ≡ CLASS_PREV) ⊎ (j ≡ CLASS_LAST)) → ⊥
+not_side : (j : ℕ) → (j ≡ EVEN) ⊎ ((j ≡ ODD) ⊎ (j ≡ LEADERS)) → (j ≡ CLASS_NEXT) ⊎ (j ≡ CLASS_PREV) → ⊥
 not_side j (inl e) (inl s) = absurd (omega (arith, e, s))
-not_side j (inr e) (inl s) = absurd (omega (arith, e, s))
-not_side j (inl e) (inr (inl s)) = absurd (omega (arith, e, s))
-not_side j (inr e) (inr (inl s)) = absurd (omega (arith, e, s))
-not_side j (inl e) (inr (inr s)) = absurd (omega (arith, e, s))
-not_side j (inr e) (inr (inr s)) = absurd (omega (arith, e, s))
+not_side j (inr (inl e)) (inl s) = absurd (omega (arith, e, s))
+not_side j (inr (inr e)) (inl s) = absurd (omega (arith, e, s))
+not_side j (inl e) (inr s) = absurd (omega (arith, e, s))
+not_side j (inr (inl e)) (inr s) = absurd (omega (arith, e, s))
+not_side j (inr (inr e)) (inr s) = absurd (omega (arith, e, s))
 
--- what stands before a cell of a run stands in its front part
-pub prev_in : (h : ℕ → Node) (first : Option ℕ) (us : List ℕ) (d : ℕ) (vs : List ℕ) (last : Option ℕ) → RunsThrough h None first (us ++ (d ∷ vs)) last None → (q : ℕ) → (h d).prev ≡ Some q → In q us
-prev_in h first us d vs last r q e = let s = split h None first us (d ∷ vs) last None r in before_in h first us s.0 s.1 q s.2 (sym s.3.1 ∙ e)
+-- what stands before a cell of a class is one of the class
+pub prev_among : (h : ℕ → Node) (first : Option ℕ) (us : List ℕ) (d : ℕ) (vs : List ℕ) (last : Option ℕ) → RunsThrough h last first (us ++ (d ∷ vs)) last None → (q : ℕ) → (h d).prev ≡ Some q → In q (us ++ (d ∷ vs))
+prev_among h first [] d vs last r q e = before_behind h last first d vs last None q r (sym r.1 ∙ e)
+prev_among h first (u ∷ us) d vs last r q e = in_left q (u ∷ us) (d ∷ vs) (prev_in h last first u us d vs last r q e).0
 
--- and what stands behind it in the other
-pub next_in_run : (h : ℕ → Node) (first : Option ℕ) (us : List ℕ) (d : ℕ) (vs : List ℕ) (last : Option ℕ) → RunsThrough h None first (us ++ (d ∷ vs)) last None → (q : ℕ) → (h d).next ≡ Some q → In q vs
-next_in_run h first us d vs last r q e = let s = split h None first us (d ∷ vs) last None r in after_in h (Some d) (h d).next vs last q s.3.2 e
+-- what stands behind a cell of a run stands in the part behind it
+pub next_in_run : (h : ℕ → Node) (before first : Option ℕ) (us : List ℕ) (d : ℕ) (vs : List ℕ) (last : Option ℕ) → RunsThrough h before first (us ++ (d ∷ vs)) last None → (q : ℕ) → (h d).next ≡ Some q → In q vs
+next_in_run h before first us d vs last r q e = let s = split h before first us (d ∷ vs) last None r in after_in h (Some d) (h d).next vs last q s.3.2 e
 
 module _ (f : ℕ → Option HeldCell) (m c : ℕ) (xs : List ℕ) (t : ClassTree) (have : HaveLinks f) (old : AreClassed f m xs t) (alive : (z : ℕ) → In z xs → IsSome (f z)) (distinct : Distinct xs) (there_m : IsSome (f m)) (there_c : IsSome (f c)) (no_m : In m xs → ⊥) (not_m : c ≢ m) where
   abbrev p : ℕ × ℕ
@@ -50,8 +51,8 @@ module _ (f : ℕ → Option HeldCell) (m c : ℕ) (xs : List ℕ) (t : ClassTre
   zs_once = distinct_filter (λ a. is_key (key_in f a) p) xs distinct
 
   -- the leader of the class
-  lead_key : (l : ℕ) → In l ls → is_key (key_in f l) p ≡ true → RunsThrough (class_node f) None (Some l) zs (link_in f l CLASS_LAST) None
-  lead_key l i e = subst (λ q. RunsThrough (class_node f) None (Some l) (of_class f q xs) (link_in f l CLASS_LAST) None) (key_true (key_in f l) p e) (old.runs l i)
+  lead_key : (l : ℕ) → In l ls → is_key (key_in f l) p ≡ true → RunsRound f l zs
+  lead_key l i e = subst (λ q. RunsRound f l (of_class f q xs)) (key_true (key_in f l) p e) (old.runs l i)
 
   lead_one : (j l : ℕ) → In j ls → In l ls → is_key (key_in f j) p ≡ true → is_key (key_in f l) p ≡ true → j ≡ l
   lead_one j l a b d e = sorted_apart f 0 t old.sorted j l a b (key_true (key_in f j) p d ∙ sym (key_true (key_in f l) p e))
@@ -69,13 +70,10 @@ module _ (f : ℕ → Option HeldCell) (m c : ℕ) (xs : List ℕ) (t : ClassTre
     b1 = link_written f c CLASS_NEXT None
 
     abbrev b2 : ℕ → Option HeldCell
-    b2 = link_written b1 c CLASS_PREV None
-
-    abbrev b3 : ℕ → Option HeldCell
-    b3 = link_written b2 c CLASS_LAST (Some c)
+    b2 = link_written b1 c CLASS_PREV (Some c)
 
     abbrev b4 : ℕ → Option HeldCell
-    b4 = link_written b3 c EVEN None
+    b4 = link_written b2 c EVEN None
 
     abbrev b5 : ℕ → Option HeldCell
     b5 = link_written b4 c ODD None
@@ -84,8 +82,8 @@ module _ (f : ℕ → Option HeldCell) (m c : ℕ) (xs : List ℕ) (t : ClassTre
     b6 = begun f hb kb c
 
     touches_b5 : Touches f b5 m (c ∷ xs) p
-    touches_b5 = touches_tree f b4 m (c ∷ xs) p (touches_tree f b3 m (c ∷ xs) p (touches_own f b2 m (c ∷ xs) p (touches_own f b1 m (c ∷ xs) p (touches_own f f m (c ∷ xs) p (touches_none f m (c ∷ xs) p)
-        c CLASS_NEXT None (inl refl) (key_same p) (omega arith)) c CLASS_PREV None (inl refl) (key_same p) (omega arith)) c CLASS_LAST (Some c) (inl refl) (key_same p) (omega arith)) c EVEN None (inr (inl refl, inl refl))) c ODD None (inr (inl refl, inr refl))
+    touches_b5 = touches_tree f b4 m (c ∷ xs) p (touches_tree f b2 m (c ∷ xs) p (touches_own f b1 m (c ∷ xs) p (touches_own f f m (c ∷ xs) p (touches_none f m (c ∷ xs) p)
+        c CLASS_NEXT None (inl refl) (key_same p) (omega arith)) c CLASS_PREV (Some c) (inl refl) (key_same p) (omega arith)) c EVEN None (inr (inl refl, inl refl))) c ODD None (inr (inl refl, inr refl))
 
     -- what is left as it was
     pub begun_touches : Touches f b6 m (c ∷ xs) p
@@ -98,26 +96,19 @@ module _ (f : ℕ → Option HeldCell) (m c : ℕ) (xs : List ℕ) (t : ClassTre
     len1 = length_kept f c CLASS_NEXT None c ∙ have c there_c
 
     len2 : length (links_of (b2 c)) ≡ 8
-    len2 = length_kept b1 c CLASS_PREV None c ∙ len1
-
-    len3 : length (links_of (b3 c)) ≡ 8
-    len3 = length_kept b2 c CLASS_LAST (Some c) c ∙ len2
+    len2 = length_kept b1 c CLASS_PREV (Some c) c ∙ len1
 
     len4 : length (links_of (b4 c)) ≡ 8
-    len4 = length_kept b3 c EVEN None c ∙ len3
+    len4 = length_kept b2 c EVEN None c ∙ len2
 
-    to_b3 : (j : ℕ) → j ≢ EVEN → j ≢ ODD → link_in b6 c j ≡ link_in b3 c j
-    to_b3 j x y = place_far f m xs t old no_m p b5 (Some c) c j x y ∙ link_far b4 c ODD None c j y ∙ link_far b3 c EVEN None c j x
+    to_b2 : (j : ℕ) → j ≢ EVEN → j ≢ ODD → j ≢ LEADERS → link_in b6 c j ≡ link_in b2 c j
+    to_b2 j x y z = place_far f m xs t old no_m p b5 (Some c) c j x y z ∙ link_far b4 c ODD None c j y ∙ link_far b2 c EVEN None c j x
 
     c_next : link_in b6 c CLASS_NEXT ≡ None
-    c_next = to_b3 CLASS_NEXT (λ e. absurd (omega (arith, e))) (λ e. absurd (omega (arith, e))) ∙ link_far b2 c CLASS_LAST (Some c) c CLASS_NEXT (λ e. absurd (omega (arith, e))) ∙ link_far b1 c CLASS_PREV None c CLASS_NEXT (λ e. absurd (omega (arith, e)))
-        ∙ link_at f c CLASS_NEXT None (have c there_c) (omega arith)
+    c_next = to_b2 CLASS_NEXT (λ e. absurd (omega (arith, e))) (λ e. absurd (omega (arith, e))) (λ e. absurd (omega (arith, e))) ∙ link_far b1 c CLASS_PREV (Some c) c CLASS_NEXT (λ e. absurd (omega (arith, e))) ∙ link_at f c CLASS_NEXT None (have c there_c) (omega arith)
 
-    c_prev : link_in b6 c CLASS_PREV ≡ None
-    c_prev = to_b3 CLASS_PREV (λ e. absurd (omega (arith, e))) (λ e. absurd (omega (arith, e))) ∙ link_far b2 c CLASS_LAST (Some c) c CLASS_PREV (λ e. absurd (omega (arith, e))) ∙ link_at b1 c CLASS_PREV None len1 (omega arith)
-
-    c_last : link_in b6 c CLASS_LAST ≡ Some c
-    c_last = to_b3 CLASS_LAST (λ e. absurd (omega (arith, e))) (λ e. absurd (omega (arith, e))) ∙ link_at b2 c CLASS_LAST (Some c) len2 (omega arith)
+    c_prev : link_in b6 c CLASS_PREV ≡ Some c
+    c_prev = to_b2 CLASS_PREV (λ e. absurd (omega (arith, e))) (λ e. absurd (omega (arith, e))) (λ e. absurd (omega (arith, e))) ∙ link_at b1 c CLASS_PREV (Some c) len1 (omega arith)
 
     no_outer : In c (at f m xs t old no_m p).hole.outer → ⊥
     no_outer i = fresh (old.inside c (outer_in f m xs t old no_m p c i))
@@ -126,7 +117,7 @@ module _ (f : ℕ → Option HeldCell) (m c : ℕ) (xs : List ℕ) (t : ClassTre
     c_held e = elim (at f m xs t old no_m p).hole.holds [ inl s ↦ not_m (e ∙ s.0) | inr i ↦ no_outer (subst (λ z. In z (at f m xs t old no_m p).hole.outer) (sym e) i.0) ]
 
     c_even : link_in b6 c EVEN ≡ None
-    c_even = link_by b5 hb kb (Some c) c EVEN c_held ∙ link_far b4 c ODD None c EVEN (λ e. absurd (omega (arith, e))) ∙ link_at b3 c EVEN None len3 (omega arith)
+    c_even = link_by b5 hb kb (Some c) c EVEN c_held ∙ link_far b4 c ODD None c EVEN (λ e. absurd (omega (arith, e))) ∙ link_at b2 c EVEN None len2 (omega arith)
 
     c_odd : link_in b6 c ODD ≡ None
     c_odd = link_by b5 hb kb (Some c) c ODD c_held ∙ link_at b4 c ODD None len4 (omega arith)
@@ -140,7 +131,7 @@ module _ (f : ℕ → Option HeldCell) (m c : ℕ) (xs : List ℕ) (t : ClassTre
         away : (b j : ℕ) → Holds m LEADERS (at f m xs t old no_m p).hole.outer b j → (b ≡ hb → j ≡ kb → ⊥) → link_in b6 b j ≡ link_in f b j
         away b j o n =
             let d : b ≢ c = (λ e. elim o [ inl s ↦ not_m (sym e ∙ s.0) | inr i ↦ no_outer (subst (λ z. In z (at f m xs t old no_m p).hole.outer) e i.0) ]) in
-            link_other b5 hb kb (Some c) b j (λ s e. n e s) ∙ link_by b4 c ODD None b j d ∙ link_by b3 c EVEN None b j d ∙ link_by b2 c CLASS_LAST (Some c) b j d ∙ link_by b1 c CLASS_PREV None b j d ∙ link_by f c CLASS_NEXT None b j d
+            link_other b5 hb kb (Some c) b j (λ s e. n e s) ∙ link_by b4 c ODD None b j d ∙ link_by b2 c EVEN None b j d ∙ link_by b1 c CLASS_PREV (Some c) b j d ∙ link_by f c CLASS_NEXT None b j d
 
     none_there : (z : ℕ) → In z (leaders (place_in f p m t).tree) → ⊥
     none_there z i = subst (λ u. In z (leaders u)) (bare_of (place_in f p m t).tree none) i
@@ -154,20 +145,19 @@ module _ (f : ℕ → Option HeldCell) (m c : ℕ) (xs : List ℕ) (t : ClassTre
       keys = touches_keys f b6 m (c ∷ xs) p begun_touches;
       lists = lists;
       nodes = λ z _ e. begun_touches.nodes z e;
-      lasts = λ l _ e. begun_touches.lasts l e;
       tree = begun_tree;
       sorted = fill_sorted f m xs t old no_m p (Fork c Bare Bare) (λ z _ i. absurd (none_there z i)) (λ z e i. absurd (no_other z e i)) (λ k i. absurd i, λ k i. absurd i, tt, tt);
       stay = fill_stay f m xs t old no_m p (Fork c Bare Bare) (λ z _ i. absurd (none_there z i)) (λ z e i. absurd (no_other z e i));
       were = fill_were f m xs t old no_m p (Fork c Bare Bare) (λ z _ i. absurd (none_there z i)) (λ z e i. absurd (no_other z e i));
       heads = fill_heads f m xs t old no_m p (Fork c Bare Bare) (Some c) (λ z e i. elim i [ inl s ↦ ap Some s | inr j ↦ absurd j ]);
       headed = λ l e. (let s : c ≡ l = cc in ((at f m xs t old no_m p).hole.ins (Fork c Bare Bare) l (inl s), ap (λ u. is_key (key_in f u) p) (sym s) ∙ key_same p));
-      run = λ l e. (let s : c ≡ l = cc in subst (λ us. RunsThrough (class_node b6) None (Some l) us (link_in b6 l CLASS_LAST) None) (sym alone) (ap Some (sym s), c_prev, (c_next, ap (λ u. link_in b6 u CLASS_LAST) (sym s) ∙ c_last)));
+      run = λ l e. (let s : c ≡ l = cc in subst (λ us. RunsRound b6 l us) (sym alone) (subst (λ z. RunsRound b6 z (c ∷ [])) s (refl, refl, (c_next, c_prev))));
       none = λ e. absurd cc;
     }
 
   -- A class gets longer
 
-  module _ (xs' : List ℕ) (l q : ℕ) (lists : (r : ℕ × ℕ) → is_key r p ≡ false → of_class f r xs' ≡ of_class f r xs) (longer : of_class f p xs' ≡ zs ++ c ∷ []) (fresh : In c xs → ⊥) (in_l : In l ls) (key_l : is_key (key_in f l) p ≡ true) (last : link_in f l CLASS_LAST ≡ Some q) where
+  module _ (xs' : List ℕ) (l q : ℕ) (lists : (r : ℕ × ℕ) → is_key r p ≡ false → of_class f r xs' ≡ of_class f r xs) (longer : of_class f p xs' ≡ zs ++ c ∷ []) (fresh : In c xs → ⊥) (in_l : In l ls) (key_l : is_key (key_in f l) p ≡ true) (last : link_in f l CLASS_PREV ≡ Some q) where
     abbrev l1 : ℕ → Option HeldCell
     l1 = link_written f c CLASS_NEXT None
 
@@ -180,11 +170,27 @@ module _ (f : ℕ → Option HeldCell) (m c : ℕ) (xs : List ℕ) (t : ClassTre
     abbrev l4 : ℕ → Option HeldCell
     l4 = lengthened f l q c
 
-    run_l : RunsThrough (class_node f) None (Some l) zs (Some q) None
-    run_l = subst (λ o. RunsThrough (class_node f) None (Some l) zs o None) last (lead_key l in_l key_l)
+    run_l : RunsThrough (class_node f) (Some q) (Some l) zs (Some q) None
+    run_l = subst (λ o. RunsThrough (class_node f) o (Some l) zs o None) last (lead_key l in_l key_l)
+
+    -- those behind the first
+    abbrev head_l : (ys : List ℕ) × (zs ≡ l ∷ ys)
+    head_l = run_head (class_node f) (Some q) l zs (Some q) run_l
+
+    abbrev tail_l : List ℕ
+    tail_l = head_l.0
+
+    run_ys : RunsThrough (class_node f) (Some q) (Some l) (l ∷ tail_l) (Some q) None
+    run_ys = subst (λ us. RunsThrough (class_node f) (Some q) (Some l) us (Some q) None) head_l.1 run_l
+
+    once_ys : Distinct (l ∷ tail_l)
+    once_ys = subst Distinct head_l.1 zs_once
+
+    fresh_ys : In c (l ∷ tail_l) → ⊥
+    fresh_ys i = fresh (zs_in c (subst (λ us. In c us) (sym head_l.1) i)).0
 
     q_in : In q zs
-    q_in = before_in (class_node f) (Some l) zs (Some q) None q run_l refl
+    q_in = subst (λ us. In q us) (sym head_l.1) (before_behind (class_node f) (Some q) (Some l) l tail_l (Some q) None q run_ys refl)
 
     not_q : c ≢ q
     not_q e = fresh (subst (λ u. In u xs) (sym e) (zs_in q q_in).0)
@@ -193,7 +199,7 @@ module _ (f : ℕ → Option HeldCell) (m c : ℕ) (xs : List ℕ) (t : ClassTre
     pub longer_touches : Touches f l4 m (c ∷ xs) p
     longer_touches = touches_own f l3 m (c ∷ xs) p (touches_own f l2 m (c ∷ xs) p (touches_own f l1 m (c ∷ xs) p (touches_own f f m (c ∷ xs) p (touches_none f m (c ∷ xs) p)
         c CLASS_NEXT None (inl refl) (key_same p) (omega arith)) c CLASS_PREV (Some q) (inl refl) (key_same p) (omega arith)) q CLASS_NEXT (Some c) (inr (zs_in q q_in).0) (zs_in q q_in).1 (omega arith))
-        l CLASS_LAST (Some c) (inr (old.inside l in_l)) key_l (omega arith)
+        l CLASS_PREV (Some c) (inr (old.inside l in_l)) key_l (omega arith)
 
     len_q : length (links_of (l2 q)) ≡ 8
     len_q = length_kept l1 c CLASS_PREV (Some q) q ∙ length_kept f c CLASS_NEXT None q ∙ have q (alive q (zs_in q q_in).0)
@@ -201,21 +207,36 @@ module _ (f : ℕ → Option HeldCell) (m c : ℕ) (xs : List ℕ) (t : ClassTre
     len_l : length (links_of (l3 l)) ≡ 8
     len_l = length_kept l2 q CLASS_NEXT (Some c) l ∙ length_kept l1 c CLASS_PREV (Some q) l ∙ length_kept f c CLASS_NEXT None l ∙ have l (alive l (old.inside l in_l))
 
-    end_joined : Joined (class_node f) (class_node l4) c (Some q)
+    end_joined : Joined (class_node f) (class_node l3) c (Some q)
     end_joined = record {
       here = λ t. record {
-        prev = (link_far l3 l CLASS_LAST (Some c) c CLASS_PREV (λ e. absurd (omega (arith, e))) ∙ link_far l2 q CLASS_NEXT (Some c) c CLASS_PREV (λ e. absurd (omega (arith, e))) ∙ link_at l1 c CLASS_PREV (Some q) (length_kept f c CLASS_NEXT None c ∙ have c there_c) (omega arith)) t;
-        next = (link_far l3 l CLASS_LAST (Some c) c CLASS_NEXT (λ e. absurd (omega (arith, e))) ∙ link_by l2 q CLASS_NEXT (Some c) c CLASS_NEXT not_q ∙ link_far l1 c CLASS_PREV (Some q) c CLASS_NEXT (λ e. absurd (omega (arith, e))) ∙ link_at f c CLASS_NEXT None (have c there_c) (omega arith)) t;
+        prev = (link_far l2 q CLASS_NEXT (Some c) c CLASS_PREV (λ e. absurd (omega (arith, e))) ∙ link_at l1 c CLASS_PREV (Some q) (length_kept f c CLASS_NEXT None c ∙ have c there_c) (omega arith)) t;
+        next = (link_by l2 q CLASS_NEXT (Some c) c CLASS_NEXT not_q ∙ link_far l1 c CLASS_PREV (Some q) c CLASS_NEXT (λ e. absurd (omega (arith, e))) ∙ link_at f c CLASS_NEXT None (have c there_c) (omega arith)) t;
       };
       before = λ z n e t. record {
-        prev = (link_far l3 l CLASS_LAST (Some c) z CLASS_PREV (λ e. absurd (omega (arith, e))) ∙ link_far l2 q CLASS_NEXT (Some c) z CLASS_PREV (λ e. absurd (omega (arith, e))) ∙ link_by l1 c CLASS_PREV (Some q) z CLASS_PREV n ∙ link_far f c CLASS_NEXT None z CLASS_PREV (λ e. absurd (omega (arith, e)))) t;
-        next = (link_far l3 l CLASS_LAST (Some c) z CLASS_NEXT (λ e. absurd (omega (arith, e))) ∙ ap (λ u. link_in l3 u CLASS_NEXT) (let s : z ≡ q = cc in s) ∙ link_at l2 q CLASS_NEXT (Some c) len_q (omega arith)) t;
+        prev = (link_far l2 q CLASS_NEXT (Some c) z CLASS_PREV (λ e. absurd (omega (arith, e))) ∙ link_by l1 c CLASS_PREV (Some q) z CLASS_PREV n ∙ link_far f c CLASS_NEXT None z CLASS_PREV (λ e. absurd (omega (arith, e)))) t;
+        next = (ap (λ u. link_in l3 u CLASS_NEXT) (let s : z ≡ q = cc in s) ∙ link_at l2 q CLASS_NEXT (Some c) len_q (omega arith)) t;
       };
       other = λ z n d t. record {
-        prev = (link_far l3 l CLASS_LAST (Some c) z CLASS_PREV (λ e. absurd (omega (arith, e))) ∙ link_far l2 q CLASS_NEXT (Some c) z CLASS_PREV (λ e. absurd (omega (arith, e))) ∙ link_by l1 c CLASS_PREV (Some q) z CLASS_PREV n ∙ link_far f c CLASS_NEXT None z CLASS_PREV (λ e. absurd (omega (arith, e)))) t;
-        next = (link_far l3 l CLASS_LAST (Some c) z CLASS_NEXT (λ e. absurd (omega (arith, e))) ∙ link_by l2 q CLASS_NEXT (Some c) z CLASS_NEXT (λ s. d (ap Some (sym s))) ∙ link_far l1 c CLASS_PREV (Some q) z CLASS_NEXT (λ e. absurd (omega (arith, e))) ∙ link_by f c CLASS_NEXT None z CLASS_NEXT n) t;
+        prev = (link_far l2 q CLASS_NEXT (Some c) z CLASS_PREV (λ e. absurd (omega (arith, e))) ∙ link_by l1 c CLASS_PREV (Some q) z CLASS_PREV n ∙ link_far f c CLASS_NEXT None z CLASS_PREV (λ e. absurd (omega (arith, e)))) t;
+        next = (link_by l2 q CLASS_NEXT (Some c) z CLASS_NEXT (λ s. d (ap Some (sym s))) ∙ link_far l1 c CLASS_PREV (Some q) z CLASS_NEXT (λ e. absurd (omega (arith, e))) ∙ link_by f c CLASS_NEXT None z CLASS_NEXT n) t;
       };
     }
+
+    -- with it at the end, and then with it before the first
+    run_3 : RunsThrough (class_node l3) (Some q) (Some l) (l ∷ (tail_l ++ c ∷ [])) (Some c) None
+    run_3 = joins_behind (class_node f) (class_node l3) (Some q) (Some l) (Some q) l tail_l c end_joined once_ys fresh_ys run_ys
+
+    not_lead : (z : ℕ) → In z (tail_l ++ c ∷ []) → z ≢ l
+    not_lead z i e = elim (in_either z tail_l (c ∷ []) i) [ inl j ↦ each_in (λ u. l ≢ u) tail_l z once_ys.0 j (sym e) | inr j ↦ elim j [ inl s ↦ fresh (subst (λ u. In u xs) (sym (s ∙ e)) (old.inside l in_l)) | inr k ↦ k ] ]
+
+    run_4 : RunsThrough (class_node l4) (Some c) (Some l) (l ∷ (tail_l ++ c ∷ [])) (Some c) None
+    run_4 = relink_start (class_node l3) (class_node l4) (Some q) (Some l) l (tail_l ++ c ∷ []) (Some c) None (Some c) run_3
+        (λ t. record { prev = link_at l3 l CLASS_PREV (Some c) len_l (omega arith) t; next = link_far l3 l CLASS_PREV (Some c) l CLASS_NEXT (λ e. absurd (omega (arith, e))) t })
+        (each_of _ (tail_l ++ c ∷ []) (λ z i t. record { prev = link_by l3 l CLASS_PREV (Some c) z CLASS_PREV (not_lead z i) t; next = link_far l3 l CLASS_PREV (Some c) z CLASS_NEXT (λ e. absurd (omega (arith, e))) t }))
+
+    run_round : RunsRound l4 l (zs ++ c ∷ [])
+    run_round = subst (λ us. RunsRound l4 l (us ++ c ∷ [])) (sym head_l.1) (subst (λ o. RunsThrough (class_node l4) o (Some l) (l ∷ (tail_l ++ c ∷ [])) o None) (sym (link_at l3 l CLASS_PREV (Some c) len_l (omega arith))) run_4)
 
     -- the classes then
     pub longer_classed : AreClassed l4 m xs' t
@@ -223,25 +244,23 @@ module _ (f : ℕ → Option HeldCell) (m c : ℕ) (xs : List ℕ) (t : ClassTre
       keys = touches_keys f l4 m (c ∷ xs) p longer_touches;
       lists = lists;
       nodes = λ z _ e. longer_touches.nodes z e;
-      lasts = λ k _ e. longer_touches.lasts k e;
-      tree = subst (λ o. IsTree l4 o t) (sym (same m LEADERS (λ e. absurd (omega (arith, e))) (λ e. absurd (omega (arith, e))) (λ e. absurd (omega (arith, e)))))
-          (tree_frame f l4 (link_in f m LEADERS) t (λ k i. (same k EVEN (λ e. absurd (omega (arith, e))) (λ e. absurd (omega (arith, e))) (λ e. absurd (omega (arith, e))), same k ODD (λ e. absurd (omega (arith, e))) (λ e. absurd (omega (arith, e))) (λ e. absurd (omega (arith, e))))) (touches_there f l4 m (c ∷ xs) p longer_touches) old.tree);
+      tree = subst (λ o. IsTree l4 o t) (sym (same m LEADERS (λ e. absurd (omega (arith, e))) (λ e. absurd (omega (arith, e)))))
+          (tree_frame f l4 (link_in f m LEADERS) t (λ k i. (same k EVEN (λ e. absurd (omega (arith, e))) (λ e. absurd (omega (arith, e))), same k ODD (λ e. absurd (omega (arith, e))) (λ e. absurd (omega (arith, e))))) (touches_there f l4 m (c ∷ xs) p longer_touches) old.tree);
       sorted = old.sorted;
       stay = λ k i _. i;
       were = λ k i _. i;
       heads = λ k i e. ap Some (lead_one l k in_l i key_l e);
       headed = λ k e. (let s : l ≡ k = cc in (subst (λ u. In u ls) s in_l, ap (λ u. is_key (key_in f u) p) (sym s) ∙ key_l));
-      run = λ k e. (let s : l ≡ k = cc in subst (λ us. RunsThrough (class_node l4) None (Some k) us (link_in l4 k CLASS_LAST) None) (sym longer) (subst (λ u. RunsThrough (class_node l4) None (Some u) (zs ++ c ∷ []) (link_in l4 u CLASS_LAST) None) s
-          (subst (λ o. RunsThrough (class_node l4) None (Some l) (zs ++ c ∷ []) o None) (sym (link_at l3 l CLASS_LAST (Some c) len_l (omega arith))) (joins (class_node f) (class_node l4) (Some l) (Some q) zs c end_joined zs_once (λ i. fresh (zs_in c i).0) run_l))));
+      run = λ k e. (let s : l ≡ k = cc in subst (λ us. RunsRound l4 k us) (sym longer) (subst (λ u. RunsRound l4 u (zs ++ c ∷ [])) s run_round));
       none = λ e. absurd cc;
     }
       where
-        same : (b j : ℕ) → j ≢ CLASS_NEXT → j ≢ CLASS_PREV → j ≢ CLASS_LAST → link_in l4 b j ≡ link_in f b j
-        same b j x y z = link_far l3 l CLASS_LAST (Some c) b j z ∙ link_far l2 q CLASS_NEXT (Some c) b j x ∙ link_far l1 c CLASS_PREV (Some q) b j y ∙ link_far f c CLASS_NEXT None b j x
+        same : (b j : ℕ) → j ≢ CLASS_NEXT → j ≢ CLASS_PREV → link_in l4 b j ≡ link_in f b j
+        same b j x y = link_far l3 l CLASS_PREV (Some c) b j y ∙ link_far l2 q CLASS_NEXT (Some c) b j x ∙ link_far l1 c CLASS_PREV (Some q) b j y ∙ link_far f c CLASS_NEXT None b j x
 
   -- An atom comes between two of its class
 
-  module _ (xs' us vs : List ℕ) (l pr d : ℕ) (lists : (r : ℕ × ℕ) → is_key r p ≡ false → of_class f r xs' ≡ of_class f r xs) (cut : zs ≡ us ++ (d ∷ vs)) (inside : of_class f p xs' ≡ us ++ (c ∷ d ∷ vs)) (fresh : In c xs → ⊥)
+  module _ (xs' us vs : List ℕ) (l pr d : ℕ) (lists : (r : ℕ × ℕ) → is_key r p ≡ false → of_class f r xs' ≡ of_class f r xs) (cut : zs ≡ l ∷ (us ++ (d ∷ vs))) (inside : of_class f p xs' ≡ l ∷ (us ++ (c ∷ d ∷ vs))) (fresh : In c xs → ⊥)
       (in_l : In l ls) (key_l : is_key (key_in f l) p ≡ true) (prev : link_in f d CLASS_PREV ≡ Some pr) where
     abbrev i1 : ℕ → Option HeldCell
     i1 = link_written f c CLASS_NEXT (Some d)
@@ -255,26 +274,32 @@ module _ (f : ℕ → Option HeldCell) (m c : ℕ) (xs : List ℕ) (t : ClassTre
     abbrev i4 : ℕ → Option HeldCell
     i4 = put_between f pr d c
 
-    run_i : RunsThrough (class_node f) None (Some l) (us ++ (d ∷ vs)) (link_in f l CLASS_LAST) None
-    run_i = subst (λ ws. RunsThrough (class_node f) None (Some l) ws (link_in f l CLASS_LAST) None) cut (lead_key l in_l key_l)
+    run_i : RunsRound f l (l ∷ (us ++ (d ∷ vs)))
+    run_i = subst (λ ws. RunsRound f l ws) cut (lead_key l in_l key_l)
 
-    once_i : Distinct (us ++ (d ∷ vs))
+    once_i : Distinct (l ∷ (us ++ (d ∷ vs)))
     once_i = subst Distinct cut zs_once
 
-    pr_us : In pr us
-    pr_us = prev_in (class_node f) (Some l) us d vs (link_in f l CLASS_LAST) run_i pr prev
+    pr_us : In pr (l ∷ us)
+    pr_us = (prev_in (class_node f) (link_in f l CLASS_PREV) (Some l) l us d vs (link_in f l CLASS_PREV) run_i pr prev).0
 
     pr_zs : In pr zs
-    pr_zs = subst (λ ws. In pr ws) (sym cut) (in_left pr us (d ∷ vs) pr_us)
+    pr_zs = subst (λ ws. In pr ws) (sym cut) (in_left pr (l ∷ us) (d ∷ vs) pr_us)
 
     d_zs : In d zs
-    d_zs = subst (λ ws. In d ws) (sym cut) (in_right d us (d ∷ vs) (inl refl))
+    d_zs = subst (λ ws. In d ws) (sym cut) (in_right d (l ∷ us) (d ∷ vs) (inl refl))
 
     c_not : (z : ℕ) → In z zs → c ≢ z
     c_not z i e = fresh (subst (λ u. In u xs) (sym e) (zs_in z i).0)
 
     pr_not_d : pr ≢ d
-    pr_not_d = apart us (d ∷ vs) pr d once_i pr_us (inl refl)
+    pr_not_d = apart (l ∷ us) (d ∷ vs) pr d once_i pr_us (inl refl)
+
+    l_not_d : l ≢ d
+    l_not_d = apart (l ∷ us) (d ∷ vs) l d once_i (inl refl) (inl refl)
+
+    l_not_c : l ≢ c
+    l_not_c e = fresh (subst (λ u. In u xs) e (old.inside l in_l))
 
     -- what is left as it was
     pub inside_touches : Touches f i4 m (c ∷ xs) p
@@ -312,7 +337,6 @@ module _ (f : ℕ → Option HeldCell) (m c : ℕ) (xs : List ℕ) (t : ClassTre
       keys = touches_keys f i4 m (c ∷ xs) p inside_touches;
       lists = lists;
       nodes = λ z _ e. inside_touches.nodes z e;
-      lasts = λ k _ e. inside_touches.lasts k e;
       tree = subst (λ o. IsTree i4 o t) (sym (same m LEADERS (λ e. absurd (omega (arith, e))) (λ e. absurd (omega (arith, e)))))
           (tree_frame f i4 (link_in f m LEADERS) t (λ k i. (same k EVEN (λ e. absurd (omega (arith, e))) (λ e. absurd (omega (arith, e))), same k ODD (λ e. absurd (omega (arith, e))) (λ e. absurd (omega (arith, e))))) (touches_there f i4 m (c ∷ xs) p inside_touches) old.tree);
       sorted = old.sorted;
@@ -320,10 +344,9 @@ module _ (f : ℕ → Option HeldCell) (m c : ℕ) (xs : List ℕ) (t : ClassTre
       were = λ k i _. i;
       heads = λ k i e. ap Some (lead_one l k in_l i key_l e);
       headed = λ k e. (let s : l ≡ k = cc in (subst (λ u. In u ls) s in_l, ap (λ u. is_key (key_in f u) p) (sym s) ∙ key_l));
-      run = λ k e. (let s : l ≡ k = cc in subst (λ ws. RunsThrough (class_node i4) None (Some k) ws (link_in i4 k CLASS_LAST) None) (sym inside) (subst (λ u. RunsThrough (class_node i4) None (Some u) (us ++ (c ∷ d ∷ vs)) (link_in i4 u CLASS_LAST) None) s
-          (subst (λ o. RunsThrough (class_node i4) None (Some l) (us ++ (c ∷ d ∷ vs)) o None) (sym (same l CLASS_LAST (λ e. absurd (omega (arith, e))) (λ e. absurd (omega (arith, e)))))
-          (subst (λ o. RunsThrough (class_node i4) None (begins (Some l) o (Some c)) (us ++ (c ∷ d ∷ vs)) (link_in f l CLASS_LAST) None) prev
-          (inserts (class_node f) (class_node i4) (Some l) (link_in f l CLASS_LAST) us c d vs inside_between once_i (λ i. fresh (zs_in c (subst (λ ws. In c ws) (sym cut) i)).0) run_i)))));
+      run = λ k e. (let s : l ≡ k = cc in subst (λ ws. RunsRound i4 k ws) (sym inside) (subst (λ u. RunsRound i4 u (l ∷ (us ++ (c ∷ d ∷ vs)))) s
+          (subst (λ o. RunsThrough (class_node i4) o (Some l) (l ∷ (us ++ (c ∷ d ∷ vs))) o None) (sym (z_prev l l_not_c l_not_d))
+          (inserts_behind (class_node f) (class_node i4) (link_in f l CLASS_PREV) (Some l) (link_in f l CLASS_PREV) l us c d vs inside_between once_i (λ i. fresh (zs_in c (subst (λ ws. In c ws) (sym cut) i)).0) run_i))));
       none = λ e. absurd cc;
     }
       where
@@ -332,7 +355,7 @@ module _ (f : ℕ → Option HeldCell) (m c : ℕ) (xs : List ℕ) (t : ClassTre
 
   -- An atom leaves from between two of its class
 
-  module _ (xs' us vs : List ℕ) (l pr nx : ℕ) (lists : (r : ℕ × ℕ) → is_key r p ≡ false → of_class f r xs' ≡ of_class f r xs) (cut : zs ≡ us ++ (c ∷ vs)) (inside : of_class f p xs' ≡ us ++ vs)
+  module _ (xs' us vs : List ℕ) (l pr nx : ℕ) (lists : (r : ℕ × ℕ) → is_key r p ≡ false → of_class f r xs' ≡ of_class f r xs) (cut : zs ≡ l ∷ (us ++ (c ∷ vs))) (inside : of_class f p xs' ≡ l ∷ (us ++ vs))
       (in_l : In l ls) (key_l : is_key (key_in f l) p ≡ true) (prev : link_in f c CLASS_PREV ≡ Some pr) (next : link_in f c CLASS_NEXT ≡ Some nx) where
     abbrev e1 : ℕ → Option HeldCell
     e1 = link_written f pr CLASS_NEXT (Some nx)
@@ -340,17 +363,23 @@ module _ (f : ℕ → Option HeldCell) (m c : ℕ) (xs : List ℕ) (t : ClassTre
     abbrev e2 : ℕ → Option HeldCell
     e2 = closed f pr nx
 
-    run_e : RunsThrough (class_node f) None (Some l) (us ++ (c ∷ vs)) (link_in f l CLASS_LAST) None
-    run_e = subst (λ ws. RunsThrough (class_node f) None (Some l) ws (link_in f l CLASS_LAST) None) cut (lead_key l in_l key_l)
+    run_e : RunsRound f l (l ∷ (us ++ (c ∷ vs)))
+    run_e = subst (λ ws. RunsRound f l ws) cut (lead_key l in_l key_l)
 
-    once_e : Distinct (us ++ (c ∷ vs))
+    once_e : Distinct (l ∷ (us ++ (c ∷ vs)))
     once_e = subst Distinct cut zs_once
 
     pr_e : In pr zs
-    pr_e = subst (λ ws. In pr ws) (sym cut) (in_left pr us (c ∷ vs) (prev_in (class_node f) (Some l) us c vs (link_in f l CLASS_LAST) run_e pr prev))
+    pr_e = subst (λ ws. In pr ws) (sym cut) (in_left pr (l ∷ us) (c ∷ vs) (prev_in (class_node f) (link_in f l CLASS_PREV) (Some l) l us c vs (link_in f l CLASS_PREV) run_e pr prev).0)
+
+    nx_vs : In nx vs
+    nx_vs = next_in_run (class_node f) (link_in f l CLASS_PREV) (Some l) (l ∷ us) c vs (link_in f l CLASS_PREV) run_e nx next
 
     nx_e : In nx zs
-    nx_e = subst (λ ws. In nx ws) (sym cut) (in_right nx us (c ∷ vs) (inr (next_in_run (class_node f) (Some l) us c vs (link_in f l CLASS_LAST) run_e nx next)))
+    nx_e = subst (λ ws. In nx ws) (sym cut) (in_right nx (l ∷ us) (c ∷ vs) (inr nx_vs))
+
+    l_not_nx : l ≢ nx
+    l_not_nx = apart (l ∷ us) (c ∷ vs) l nx once_e (inl refl) (inr nx_vs)
 
     -- what is left as it was
     pub closed_touches : Touches f e2 m xs p
@@ -381,7 +410,6 @@ module _ (f : ℕ → Option HeldCell) (m c : ℕ) (xs : List ℕ) (t : ClassTre
       keys = touches_keys f e2 m xs p closed_touches;
       lists = lists;
       nodes = λ z _ e. closed_touches.nodes z e;
-      lasts = λ k _ e. closed_touches.lasts k e;
       tree = subst (λ o. IsTree e2 o t) (sym (same m LEADERS (λ e. absurd (omega (arith, e))) (λ e. absurd (omega (arith, e)))))
           (tree_frame f e2 (link_in f m LEADERS) t (λ k i. (same k EVEN (λ e. absurd (omega (arith, e))) (λ e. absurd (omega (arith, e))), same k ODD (λ e. absurd (omega (arith, e))) (λ e. absurd (omega (arith, e))))) (touches_there f e2 m xs p closed_touches) old.tree);
       sorted = old.sorted;
@@ -389,11 +417,10 @@ module _ (f : ℕ → Option HeldCell) (m c : ℕ) (xs : List ℕ) (t : ClassTre
       were = λ k i _. i;
       heads = λ k i e. ap Some (lead_one l k in_l i key_l e);
       headed = λ k e. (let s : l ≡ k = cc in (subst (λ u. In u ls) s in_l, ap (λ u. is_key (key_in f u) p) (sym s) ∙ key_l));
-      run = λ k e. (let s : l ≡ k = cc in subst (λ ws. RunsThrough (class_node e2) None (Some k) ws (link_in e2 k CLASS_LAST) None) (sym inside) (subst (λ u. RunsThrough (class_node e2) None (Some u) (us ++ vs) (link_in e2 u CLASS_LAST) None) s
-          (subst (λ o. RunsThrough (class_node e2) None (Some l) (us ++ vs) o None) (sym (same l CLASS_LAST (λ e. absurd (omega (arith, e))) (λ e. absurd (omega (arith, e)))))
-          (subst (λ o. RunsThrough (class_node e2) None (begins (Some l) o (Some nx)) (us ++ vs) (ends (link_in f l CLASS_LAST) (Some nx) o) None) prev
-          (subst (λ o. RunsThrough (class_node e2) None (begins (Some l) (link_in f c CLASS_PREV) o) (us ++ vs) (ends (link_in f l CLASS_LAST) o (link_in f c CLASS_PREV)) None) next
-          (leaves (class_node f) (class_node e2) (Some l) (link_in f l CLASS_LAST) us c vs closed_left once_e run_e))))));
+      run = λ k e. (let s : l ≡ k = cc in subst (λ ws. RunsRound e2 k ws) (sym inside) (subst (λ u. RunsRound e2 u (l ∷ (us ++ vs))) s
+          (subst (λ o. RunsThrough (class_node e2) o (Some l) (l ∷ (us ++ vs)) o None) (sym (e_prev l l_not_nx))
+          (subst (λ o. RunsThrough (class_node e2) (link_in f l CLASS_PREV) (Some l) (l ∷ (us ++ vs)) (ends (link_in f l CLASS_PREV) o (link_in f c CLASS_PREV)) None) next
+          (leaves_behind (class_node f) (class_node e2) (link_in f l CLASS_PREV) (Some l) (link_in f l CLASS_PREV) l us c vs closed_left once_e run_e)))));
       none = λ e. absurd cc;
     }
       where
@@ -402,7 +429,7 @@ module _ (f : ℕ → Option HeldCell) (m c : ℕ) (xs : List ℕ) (t : ClassTre
 
   -- The last one of a class leaves
 
-  module _ (xs' us : List ℕ) (l pr : ℕ) (lists : (r : ℕ × ℕ) → is_key r p ≡ false → of_class f r xs' ≡ of_class f r xs) (cut : zs ≡ us ++ c ∷ []) (inside : of_class f p xs' ≡ us)
+  module _ (xs' us : List ℕ) (l pr : ℕ) (lists : (r : ℕ × ℕ) → is_key r p ≡ false → of_class f r xs' ≡ of_class f r xs) (cut : zs ≡ l ∷ (us ++ c ∷ [])) (inside : of_class f p xs' ≡ l ∷ us)
       (in_l : In l ls) (key_l : is_key (key_in f l) p ≡ true) (prev : link_in f c CLASS_PREV ≡ Some pr) (next : link_in f c CLASS_NEXT ≡ None) where
     abbrev s1 : ℕ → Option HeldCell
     s1 = link_written f pr CLASS_NEXT None
@@ -410,31 +437,50 @@ module _ (f : ℕ → Option HeldCell) (m c : ℕ) (xs : List ℕ) (t : ClassTre
     abbrev s2 : ℕ → Option HeldCell
     s2 = shortened f l pr
 
-    run_s : RunsThrough (class_node f) None (Some l) (us ++ c ∷ []) (link_in f l CLASS_LAST) None
-    run_s = subst (λ ws. RunsThrough (class_node f) None (Some l) ws (link_in f l CLASS_LAST) None) cut (lead_key l in_l key_l)
+    run_s : RunsRound f l (l ∷ (us ++ c ∷ []))
+    run_s = subst (λ ws. RunsRound f l ws) cut (lead_key l in_l key_l)
 
-    once_s : Distinct (us ++ c ∷ [])
+    once_s : Distinct (l ∷ (us ++ c ∷ []))
     once_s = subst Distinct cut zs_once
 
     pr_s : In pr zs
-    pr_s = subst (λ ws. In pr ws) (sym cut) (in_left pr us (c ∷ []) (prev_in (class_node f) (Some l) us c [] (link_in f l CLASS_LAST) run_s pr prev))
+    pr_s = subst (λ ws. In pr ws) (sym cut) (in_left pr (l ∷ us) (c ∷ []) (prev_in (class_node f) (link_in f l CLASS_PREV) (Some l) l us c [] (link_in f l CLASS_PREV) run_s pr prev).0)
 
     -- what is left as it was
     pub shortened_touches : Touches f s2 m xs p
-    shortened_touches = touches_own f s1 m xs p (touches_own f f m xs p (touches_none f m xs p) pr CLASS_NEXT None (zs_in pr pr_s).0 (zs_in pr pr_s).1 (omega arith)) l CLASS_LAST (Some pr) (old.inside l in_l) key_l (omega arith)
+    shortened_touches = touches_own f s1 m xs p (touches_own f f m xs p (touches_none f m xs p) pr CLASS_NEXT None (zs_in pr pr_s).0 (zs_in pr pr_s).1 (omega arith)) l CLASS_PREV (Some pr) (old.inside l in_l) key_l (omega arith)
 
-    s_prev : (z : ℕ) → link_in s2 z CLASS_PREV ≡ link_in f z CLASS_PREV
-    s_prev z = link_far s1 l CLASS_LAST (Some pr) z CLASS_PREV (λ e. absurd (omega (arith, e))) ∙ link_far f pr CLASS_NEXT None z CLASS_PREV (λ e. absurd (omega (arith, e)))
+    s_prev : (z : ℕ) → link_in s1 z CLASS_PREV ≡ link_in f z CLASS_PREV
+    s_prev z = link_far f pr CLASS_NEXT None z CLASS_PREV (λ e. absurd (omega (arith, e)))
 
-    shortened_left : Left (class_node f) (class_node s2) c (link_in f c CLASS_PREV) (link_in f c CLASS_NEXT)
+    shortened_left : Left (class_node f) (class_node s1) c (link_in f c CLASS_PREV) (link_in f c CLASS_NEXT)
     shortened_left = record {
-      other = λ z n a b t. record { prev = s_prev z t; next = (link_far s1 l CLASS_LAST (Some pr) z CLASS_NEXT (λ e. absurd (omega (arith, e))) ∙ link_by f pr CLASS_NEXT None z CLASS_NEXT (λ s. a (prev ∙ ap Some (sym s)))) t };
+      other = λ z n a b t. record { prev = s_prev z t; next = link_by f pr CLASS_NEXT None z CLASS_NEXT (λ s. a (prev ∙ ap Some (sym s))) t };
       before = λ z n a b t. (let s : ◌≡◌ {A = Option ℕ} (Some z) (Some pr) = sym a ∙ prev in let r : z ≡ pr = cc in record {
         prev = s_prev z t;
-        next = (ap (λ u. link_in s2 u CLASS_NEXT) r ∙ link_far s1 l CLASS_LAST (Some pr) pr CLASS_NEXT (λ e. absurd (omega (arith, e))) ∙ link_at f pr CLASS_NEXT None (have pr (alive pr (zs_in pr pr_s).0)) (omega arith) ∙ sym next) t;
+        next = (ap (λ u. link_in s1 u CLASS_NEXT) r ∙ link_at f pr CLASS_NEXT None (have pr (alive pr (zs_in pr pr_s).0)) (omega arith) ∙ sym next) t;
       });
       behind = λ z n a b. absurd (let s : ◌≡◌ {A = Option ℕ} (Some z) None = sym b ∙ next in cc);
     }
+
+    len_s : length (links_of (s1 l)) ≡ 8
+    len_s = length_kept f pr CLASS_NEXT None l ∙ have l (alive l (old.inside l in_l))
+
+    nothing : (ws : List ℕ) → ws ++ [] ≡ ws
+    nothing [] = refl
+    nothing (w ∷ ws) = ap (λ us. w ∷ us) (nothing ws)
+
+    -- without it, and then with another one before the first
+    run_1 : RunsThrough (class_node s1) (link_in f l CLASS_PREV) (Some l) (l ∷ us) (Some pr) None
+    run_1 = subst (λ ws. RunsThrough (class_node s1) (link_in f l CLASS_PREV) (Some l) (l ∷ ws) (Some pr) None) (nothing us)
+        (subst (λ o. RunsThrough (class_node s1) (link_in f l CLASS_PREV) (Some l) (l ∷ (us ++ [])) o None) prev
+        (subst (λ o. RunsThrough (class_node s1) (link_in f l CLASS_PREV) (Some l) (l ∷ (us ++ [])) (ends (link_in f l CLASS_PREV) o (link_in f c CLASS_PREV)) None) next
+        (leaves_behind (class_node f) (class_node s1) (link_in f l CLASS_PREV) (Some l) (link_in f l CLASS_PREV) l us c [] shortened_left once_s run_s)))
+
+    run_2 : RunsThrough (class_node s2) (Some pr) (Some l) (l ∷ us) (Some pr) None
+    run_2 = relink_start (class_node s1) (class_node s2) (link_in f l CLASS_PREV) (Some l) l us (Some pr) None (Some pr) run_1
+        (λ t. record { prev = link_at s1 l CLASS_PREV (Some pr) len_s (omega arith) t; next = link_far s1 l CLASS_PREV (Some pr) l CLASS_NEXT (λ e. absurd (omega (arith, e))) t })
+        (each_of _ us (λ z i t. record { prev = link_by s1 l CLASS_PREV (Some pr) z CLASS_PREV (λ e. each_in (λ u. l ≢ u) (us ++ c ∷ []) z once_s.0 (in_left z us (c ∷ []) i) (sym e)) t; next = link_far s1 l CLASS_PREV (Some pr) z CLASS_NEXT (λ e. absurd (omega (arith, e))) t }))
 
     -- the classes then
     pub shortened_classed : AreClassed s2 m xs' t
@@ -442,7 +488,6 @@ module _ (f : ℕ → Option HeldCell) (m c : ℕ) (xs : List ℕ) (t : ClassTre
       keys = touches_keys f s2 m xs p shortened_touches;
       lists = lists;
       nodes = λ z _ e. shortened_touches.nodes z e;
-      lasts = λ k _ e. shortened_touches.lasts k e;
       tree = subst (λ o. IsTree s2 o t) (sym (same m LEADERS (λ e. absurd (omega (arith, e))) (λ e. absurd (omega (arith, e)))))
           (tree_frame f s2 (link_in f m LEADERS) t (λ k i. (same k EVEN (λ e. absurd (omega (arith, e))) (λ e. absurd (omega (arith, e))), same k ODD (λ e. absurd (omega (arith, e))) (λ e. absurd (omega (arith, e))))) (touches_there f s2 m xs p shortened_touches) old.tree);
       sorted = old.sorted;
@@ -450,20 +495,13 @@ module _ (f : ℕ → Option HeldCell) (m c : ℕ) (xs : List ℕ) (t : ClassTre
       were = λ k i _. i;
       heads = λ k i e. ap Some (lead_one l k in_l i key_l e);
       headed = λ k e. (let s : l ≡ k = cc in (subst (λ u. In u ls) s in_l, ap (λ u. is_key (key_in f u) p) (sym s) ∙ key_l));
-      run = λ k e. (let s : l ≡ k = cc in subst (λ ws. RunsThrough (class_node s2) None (Some k) ws (link_in s2 k CLASS_LAST) None) (sym (inside ∙ sym (nothing us))) (subst (λ u. RunsThrough (class_node s2) None (Some u) (us ++ []) (link_in s2 u CLASS_LAST) None) s
-          (subst (λ o. RunsThrough (class_node s2) None (Some l) (us ++ []) o None) (sym (link_at s1 l CLASS_LAST (Some pr) (length_kept f pr CLASS_NEXT None l ∙ have l (alive l (old.inside l in_l))) (omega arith)))
-          (subst (λ o. RunsThrough (class_node s2) None (begins (Some l) o None) (us ++ []) (ends (link_in f l CLASS_LAST) None o) None) prev
-          (subst (λ o. RunsThrough (class_node s2) None (begins (Some l) (link_in f c CLASS_PREV) o) (us ++ []) (ends (link_in f l CLASS_LAST) o (link_in f c CLASS_PREV)) None) next
-          (leaves (class_node f) (class_node s2) (Some l) (link_in f l CLASS_LAST) us c [] shortened_left once_s run_s))))));
+      run = λ k e. (let s : l ≡ k = cc in subst (λ ws. RunsRound s2 k ws) (sym inside) (subst (λ u. RunsRound s2 u (l ∷ us)) s
+          (subst (λ o. RunsThrough (class_node s2) o (Some l) (l ∷ us) o None) (sym (link_at s1 l CLASS_PREV (Some pr) len_s (omega arith))) run_2)));
       none = λ e. absurd cc;
     }
       where
-        same : (b j : ℕ) → j ≢ CLASS_NEXT → j ≢ CLASS_LAST → link_in s2 b j ≡ link_in f b j
-        same b j x y = link_far s1 l CLASS_LAST (Some pr) b j y ∙ link_far f pr CLASS_NEXT None b j x
-
-        nothing : (ws : List ℕ) → ws ++ [] ≡ ws
-        nothing [] = refl
-        nothing (w ∷ ws) = ap (λ us. w ∷ us) (nothing ws)
+        same : (b j : ℕ) → j ≢ CLASS_NEXT → j ≢ CLASS_PREV → link_in s2 b j ≡ link_in f b j
+        same b j x y = link_far s1 l CLASS_PREV (Some pr) b j y ∙ link_far f pr CLASS_NEXT None b j x
 
   -- The first of a class changes
 
@@ -506,7 +544,7 @@ module _ (f : ℕ → Option HeldCell) (m c : ℕ) (xs : List ℕ) (t : ClassTre
     -- Another one of the class leads
 
     module _ (n : ℕ) (key_n : is_key (key_in f n) p ≡ true) (new : In n ls → ⊥) (n_there : IsSome (f n)) (n_not : n ≢ m) (g : ℕ → Option HeldCell) (there_g : (z : ℕ) → IsSome (f z) → IsSome (g z)) (long_g : (z : ℕ) → IsSome (f z) → length (links_of (g z)) ≡ 8)
-        (agree : (b j : ℕ) → (j ≡ EVEN) ⊎ (j ≡ ODD) → link_in g b j ≡ link_in f b j) where
+        (agree : (b j : ℕ) → (j ≡ EVEN) ⊎ ((j ≡ ODD) ⊎ (j ≡ LEADERS)) → link_in g b j ≡ link_in f b j) where
       abbrev then_x : ClassTree
       then_x = (at f m xs t old no_m p).hole.fill (Fork n pa pb)
 
@@ -518,9 +556,9 @@ module _ (f : ℕ → Option HeldCell) (m c : ℕ) (xs : List ℕ) (t : ClassTre
 
       pub lead_tree : IsTree (taken_over g (place_in f p m t).holder (place_in f p m t).link x n) (link_in (taken_over g (place_in f p m t).holder (place_in f p m t).link x n) m LEADERS) then_x
       lead_tree = taken_tree f m xs t old no_m p g x n pa pb there_g long_g
-          (λ b j o. agree b j (elim o [ inl s ↦ inr s.1 | inr i ↦ i.1 ]))
-          (subst (λ o. IsTree g o pa) (sym (agree x EVEN (inl refl))) (tree_frame f g (link_in f x EVEN) pa (λ z i. (agree z EVEN (inl refl), agree z ODD (inr refl))) there_g part_x.2))
-          (subst (λ o. IsTree g o pb) (sym (agree x ODD (inr refl))) (tree_frame f g (link_in f x ODD) pb (λ z i. (agree z EVEN (inl refl), agree z ODD (inr refl))) there_g part_x.3))
+          (λ b j o. agree b j (elim o [ inl s ↦ inr (inr s.1) | inr i ↦ elim i.1 [ inl e ↦ inl e | inr e ↦ inr (inl e) ] ]))
+          (subst (λ o. IsTree g o pa) (sym (agree x EVEN (inl refl))) (tree_frame f g (link_in f x EVEN) pa (λ z i. (agree z EVEN (inl refl), agree z ODD (inr (inl refl)))) there_g part_x.2))
+          (subst (λ o. IsTree g o pb) (sym (agree x ODD (inr (inl refl)))) (tree_frame f g (link_in f x ODD) pb (λ z i. (agree z EVEN (inl refl), agree z ODD (inr (inl refl)))) there_g part_x.3))
           (λ z i. in_x z (inr i)) n_there n_not (λ i. new (outer_in f m xs t old no_m p n i)) (λ i. new (tree_in f m xs t old no_m p n (in_x n (inr i)))) there_x
 
       pub lead_sorted : IsSorted f 0 then_x
@@ -545,13 +583,10 @@ module _ (f : ℕ → Option HeldCell) (m c : ℕ) (xs : List ℕ) (t : ClassTre
     h1 = link_written f c CLASS_NEXT (Some d)
 
     abbrev h2 : ℕ → Option HeldCell
-    h2 = link_written h1 c CLASS_PREV None
+    h2 = link_written h1 c CLASS_PREV (link_in f d CLASS_PREV)
 
     abbrev h3 : ℕ → Option HeldCell
     h3 = link_written h2 d CLASS_PREV (Some c)
-
-    abbrev h4 : ℕ → Option HeldCell
-    h4 = link_written h3 c CLASS_LAST (link_in f d CLASS_LAST)
 
     abbrev h6 : ℕ → Option HeldCell
     h6 = put_first f (place_in f p m t).holder (place_in f p m t).link d c
@@ -565,60 +600,56 @@ module _ (f : ℕ → Option HeldCell) (m c : ℕ) (xs : List ℕ) (t : ClassTre
     no_c : In c ls → ⊥
     no_c i = fresh (old.inside c i)
 
-    run_d : RunsThrough (class_node f) None (Some d) (d ∷ vs) (link_in f d CLASS_LAST) None
-    run_d = subst (λ ws. RunsThrough (class_node f) None (Some d) ws (link_in f d CLASS_LAST) None) cut (lead_key d d_ls.0 d_ls.1)
+    run_d : RunsRound f d (d ∷ vs)
+    run_d = subst (λ ws. RunsRound f d ws) cut (lead_key d d_ls.0 d_ls.1)
 
     once_d : Distinct (d ∷ vs)
     once_d = subst Distinct cut zs_once
 
-    touches_4 : Touches f h4 m (c ∷ xs) p
-    touches_4 = touches_own f h3 m (c ∷ xs) p (touches_own f h2 m (c ∷ xs) p (touches_own f h1 m (c ∷ xs) p (touches_own f f m (c ∷ xs) p (touches_none f m (c ∷ xs) p)
-        c CLASS_NEXT (Some d) (inl refl) (key_same p) (omega arith)) c CLASS_PREV None (inl refl) (key_same p) (omega arith)) d CLASS_PREV (Some c) (inr (old.inside d d_ls.0)) d_ls.1 (omega arith))
-        c CLASS_LAST (link_in f d CLASS_LAST) (inl refl) (key_same p) (omega arith)
+    touches_3 : Touches f h3 m (c ∷ xs) p
+    touches_3 = touches_own f h2 m (c ∷ xs) p (touches_own f h1 m (c ∷ xs) p (touches_own f f m (c ∷ xs) p (touches_none f m (c ∷ xs) p)
+        c CLASS_NEXT (Some d) (inl refl) (key_same p) (omega arith)) c CLASS_PREV (link_in f d CLASS_PREV) (inl refl) (key_same p) (omega arith)) d CLASS_PREV (Some c) (inr (old.inside d d_ls.0)) d_ls.1 (omega arith)
 
     -- what is left as it was
     pub first_touches : Touches f h6 m (c ∷ xs) p
-    first_touches = touches_taken f h4 m (c ∷ xs) p touches_4 (place_in f p m t).holder (place_in f p m t).link d c (inl refl) (holds_more m xs (c ∷ xs) (place_in f p m t).holder (place_in f p m t).link (λ z i. inr i) (holds_atoms f m xs t old no_m p))
-
-    long_3 : (z : ℕ) → IsSome (f z) → length (links_of (h3 z)) ≡ 8
-    long_3 z s = length_kept h2 d CLASS_PREV (Some c) z ∙ length_kept h1 c CLASS_PREV None z ∙ length_kept f c CLASS_NEXT (Some d) z ∙ have z s
+    first_touches = touches_taken f h3 m (c ∷ xs) p touches_3 (place_in f p m t).holder (place_in f p m t).link d c (inl refl) (holds_more m xs (c ∷ xs) (place_in f p m t).holder (place_in f p m t).link (λ z i. inr i) (holds_atoms f m xs t old no_m p))
 
     -- to the third step
-    down : (b j : ℕ) → j ≢ EVEN → j ≢ ODD → j ≢ CLASS_LAST → link_in h6 b j ≡ link_in h3 b j
-    down b j x y z = taken_place f m xs t old no_m p h4 d c b j x y ∙ link_far h3 c CLASS_LAST (link_in f d CLASS_LAST) b j z
+    down : (b j : ℕ) → j ≢ EVEN → j ≢ ODD → j ≢ LEADERS → link_in h6 b j ≡ link_in h3 b j
+    down b j x y z = taken_place f m xs t old no_m p h3 d c b j x y z
 
     d_prev6 : (b : ℕ) → b ≢ c → b ≢ d → link_in h6 b CLASS_PREV ≡ link_in f b CLASS_PREV
-    d_prev6 b n w = down b CLASS_PREV (λ e. absurd (omega (arith, e))) (λ e. absurd (omega (arith, e))) (λ e. absurd (omega (arith, e))) ∙ link_by h2 d CLASS_PREV (Some c) b CLASS_PREV w ∙ link_by h1 c CLASS_PREV None b CLASS_PREV n ∙ link_by f c CLASS_NEXT (Some d) b CLASS_PREV n
+    d_prev6 b n w = down b CLASS_PREV (λ e. absurd (omega (arith, e))) (λ e. absurd (omega (arith, e))) (λ e. absurd (omega (arith, e))) ∙ link_by h2 d CLASS_PREV (Some c) b CLASS_PREV w ∙ link_by h1 c CLASS_PREV (link_in f d CLASS_PREV) b CLASS_PREV n ∙ link_by f c CLASS_NEXT (Some d) b CLASS_PREV n
 
     d_next6 : (b : ℕ) → b ≢ c → link_in h6 b CLASS_NEXT ≡ link_in f b CLASS_NEXT
-    d_next6 b n = down b CLASS_NEXT (λ e. absurd (omega (arith, e))) (λ e. absurd (omega (arith, e))) (λ e. absurd (omega (arith, e))) ∙ link_far h2 d CLASS_PREV (Some c) b CLASS_NEXT (λ e. absurd (omega (arith, e))) ∙ link_by h1 c CLASS_PREV None b CLASS_NEXT n ∙ link_by f c CLASS_NEXT (Some d) b CLASS_NEXT n
+    d_next6 b n = down b CLASS_NEXT (λ e. absurd (omega (arith, e))) (λ e. absurd (omega (arith, e))) (λ e. absurd (omega (arith, e))) ∙ link_far h2 d CLASS_PREV (Some c) b CLASS_NEXT (λ e. absurd (omega (arith, e))) ∙ link_by h1 c CLASS_PREV (link_in f d CLASS_PREV) b CLASS_NEXT n ∙ link_by f c CLASS_NEXT (Some d) b CLASS_NEXT n
 
-    first_between : Between (class_node f) (class_node h6) c (link_in f d CLASS_PREV) d
-    first_between = record {
-      here = λ t. record {
-        prev = (down c CLASS_PREV (λ e. absurd (omega (arith, e))) (λ e. absurd (omega (arith, e))) (λ e. absurd (omega (arith, e))) ∙ link_by h2 d CLASS_PREV (Some c) c CLASS_PREV not_d ∙ link_at h1 c CLASS_PREV None (length_kept f c CLASS_NEXT (Some d) c ∙ have c there_c) (omega arith) ∙ sym run_d.1) t;
-        next = (down c CLASS_NEXT (λ e. absurd (omega (arith, e))) (λ e. absurd (omega (arith, e))) (λ e. absurd (omega (arith, e))) ∙ link_far h2 d CLASS_PREV (Some c) c CLASS_NEXT (λ e. absurd (omega (arith, e))) ∙ link_far h1 c CLASS_PREV None c CLASS_NEXT (λ e. absurd (omega (arith, e)))
-            ∙ link_at f c CLASS_NEXT (Some d) (have c there_c) (omega arith)) t;
-      };
-      before = λ z n e. absurd (let s : ◌≡◌ {A = Option ℕ} (Some z) None = sym e ∙ run_d.1 in cc);
-      behind = λ t. record {
-        prev = (down d CLASS_PREV (λ e. absurd (omega (arith, e))) (λ e. absurd (omega (arith, e))) (λ e. absurd (omega (arith, e))) ∙ link_at h2 d CLASS_PREV (Some c) (length_kept h1 c CLASS_PREV None d ∙ length_kept f c CLASS_NEXT (Some d) d ∙ have d (alive d (old.inside d d_ls.0))) (omega arith)) t;
-        next = d_next6 d (λ e. not_d (sym e)) t;
-      };
-      other = λ z n e w t. record { prev = d_prev6 z n w t; next = d_next6 z n t };
-    }
+    c_prev6 : link_in h6 c CLASS_PREV ≡ link_in f d CLASS_PREV
+    c_prev6 = down c CLASS_PREV (λ e. absurd (omega (arith, e))) (λ e. absurd (omega (arith, e))) (λ e. absurd (omega (arith, e))) ∙ link_by h2 d CLASS_PREV (Some c) c CLASS_PREV not_d ∙ link_at h1 c CLASS_PREV (link_in f d CLASS_PREV) (length_kept f c CLASS_NEXT (Some d) c ∙ have c there_c) (omega arith)
 
-    c_last6 : link_in h6 c CLASS_LAST ≡ link_in f d CLASS_LAST
-    c_last6 = taken_place f m xs t old no_m p h4 d c c CLASS_LAST (λ e. absurd (omega (arith, e))) (λ e. absurd (omega (arith, e))) ∙ link_at h3 c CLASS_LAST (link_in f d CLASS_LAST) (long_3 c there_c) (omega arith)
+    c_next6 : link_in h6 c CLASS_NEXT ≡ Some d
+    c_next6 = down c CLASS_NEXT (λ e. absurd (omega (arith, e))) (λ e. absurd (omega (arith, e))) (λ e. absurd (omega (arith, e))) ∙ link_far h2 d CLASS_PREV (Some c) c CLASS_NEXT (λ e. absurd (omega (arith, e))) ∙ link_far h1 c CLASS_PREV (link_in f d CLASS_PREV) c CLASS_NEXT (λ e. absurd (omega (arith, e))) ∙ link_at f c CLASS_NEXT (Some d) (have c there_c) (omega arith)
 
-    there4 : (b : ℕ) → IsSome (f b) → IsSome (h4 b)
-    there4 b s = touches_there f h4 m (c ∷ xs) p touches_4 b s
+    len_d : length (links_of (h2 d)) ≡ 8
+    len_d = length_kept h1 c CLASS_PREV (link_in f d CLASS_PREV) d ∙ length_kept f c CLASS_NEXT (Some d) d ∙ have d (alive d (old.inside d d_ls.0))
 
-    long_4 : (z : ℕ) → IsSome (f z) → length (links_of (h4 z)) ≡ 8
-    long_4 z s = touches_4.lengths z ∙ have z s
+    -- the others of the class, with c before the first one
+    run_6 : RunsThrough (class_node h6) (Some c) (Some d) (d ∷ vs) (link_in f d CLASS_PREV) None
+    run_6 = relink_start (class_node f) (class_node h6) (link_in f d CLASS_PREV) (Some d) d vs (link_in f d CLASS_PREV) None (Some c) run_d
+        (λ t. record { prev = (down d CLASS_PREV (λ e. absurd (omega (arith, e))) (λ e. absurd (omega (arith, e))) (λ e. absurd (omega (arith, e))) ∙ link_at h2 d CLASS_PREV (Some c) len_d (omega arith)) t; next = d_next6 d (λ e. not_d (sym e)) t })
+        (each_of _ vs (λ z i t. record { prev = d_prev6 z (away z i) (λ e. each_in (λ u. d ≢ u) vs z once_d.0 i (sym e)) t; next = d_next6 z (away z i) t }))
+      where
+        away : (z : ℕ) → In z vs → z ≢ c
+        away z i e = fresh (subst (λ u. In u xs) e (zs_in z (subst (λ ws. In z ws) (sym cut) (inr i))).0)
 
-    agree4 : (b j : ℕ) → (j ≡ EVEN) ⊎ (j ≡ ODD) → link_in h4 b j ≡ link_in f b j
-    agree4 b j o = link_far h3 c CLASS_LAST (link_in f d CLASS_LAST) b j (λ e. not_side j o (inr (inr e))) ∙ link_far h2 d CLASS_PREV (Some c) b j (λ e. not_side j o (inr (inl e))) ∙ link_far h1 c CLASS_PREV None b j (λ e. not_side j o (inr (inl e))) ∙ link_far f c CLASS_NEXT (Some d) b j (λ e. not_side j o (inl e))
+    there3 : (b : ℕ) → IsSome (f b) → IsSome (h3 b)
+    there3 b s = touches_there f h3 m (c ∷ xs) p touches_3 b s
+
+    long_3 : (z : ℕ) → IsSome (f z) → length (links_of (h3 z)) ≡ 8
+    long_3 z s = touches_3.lengths z ∙ have z s
+
+    agree3 : (b j : ℕ) → (j ≡ EVEN) ⊎ ((j ≡ ODD) ⊎ (j ≡ LEADERS)) → link_in h3 b j ≡ link_in f b j
+    agree3 b j o = link_far h2 d CLASS_PREV (Some c) b j (λ e. not_side j o (inr e)) ∙ link_far h1 c CLASS_PREV (link_in f d CLASS_PREV) b j (λ e. not_side j o (inr e)) ∙ link_far f c CLASS_NEXT (Some d) b j (λ e. not_side j o (inl e))
 
     -- the classes then
     pub first_classed : AreClassed h6 m xs' ((at f m xs t old no_m p).hole.fill (Fork c pa pb))
@@ -626,17 +657,14 @@ module _ (f : ℕ → Option HeldCell) (m c : ℕ) (xs : List ℕ) (t : ClassTre
       keys = touches_keys f h6 m (c ∷ xs) p first_touches;
       lists = lists;
       nodes = λ z _ e. first_touches.nodes z e;
-      lasts = λ k _ e. first_touches.lasts k e;
-      tree = lead_tree d pa pb is_x c (key_same p) no_c there_c not_m h4 there4 long_4 agree4;
-      sorted = lead_sorted d pa pb is_x c (key_same p) no_c there_c not_m h4 there4 long_4 agree4;
-      stay = lead_stay d pa pb is_x c (key_same p) no_c there_c not_m h4 there4 long_4 agree4;
-      were = lead_were d pa pb is_x c (key_same p) no_c there_c not_m h4 there4 long_4 agree4;
-      heads = lead_heads d pa pb is_x c (key_same p) no_c there_c not_m h4 there4 long_4 agree4;
-      headed = lead_headed d pa pb is_x c (key_same p) no_c there_c not_m h4 there4 long_4 agree4;
-      run = λ l e. (let s : c ≡ l = cc in subst (λ ws. RunsThrough (class_node h6) None (Some l) ws (link_in h6 l CLASS_LAST) None) (sym inside) (subst (λ u. RunsThrough (class_node h6) None (Some u) (c ∷ d ∷ vs) (link_in h6 u CLASS_LAST) None) s
-          (subst (λ o. RunsThrough (class_node h6) None (Some c) (c ∷ d ∷ vs) o None) (sym c_last6)
-          (subst (λ o. RunsThrough (class_node h6) None (begins (Some d) o (Some c)) (c ∷ d ∷ vs) (link_in f d CLASS_LAST) None) run_d.1
-          (inserts (class_node f) (class_node h6) (Some d) (link_in f d CLASS_LAST) [] c d vs first_between once_d (λ i. fresh (zs_in c (subst (λ ws. In c ws) (sym cut) i)).0) run_d)))));
+      tree = lead_tree d pa pb is_x c (key_same p) no_c there_c not_m h3 there3 long_3 agree3;
+      sorted = lead_sorted d pa pb is_x c (key_same p) no_c there_c not_m h3 there3 long_3 agree3;
+      stay = lead_stay d pa pb is_x c (key_same p) no_c there_c not_m h3 there3 long_3 agree3;
+      were = lead_were d pa pb is_x c (key_same p) no_c there_c not_m h3 there3 long_3 agree3;
+      heads = lead_heads d pa pb is_x c (key_same p) no_c there_c not_m h3 there3 long_3 agree3;
+      headed = lead_headed d pa pb is_x c (key_same p) no_c there_c not_m h3 there3 long_3 agree3;
+      run = λ l e. (let s : c ≡ l = cc in subst (λ ws. RunsRound h6 l ws) (sym inside) (subst (λ u. RunsRound h6 u (c ∷ d ∷ vs)) s
+          (subst (λ o. RunsThrough (class_node h6) o (Some c) (c ∷ d ∷ vs) o None) (sym c_prev6) (refl, c_prev6, subst (λ o. RunsThrough (class_node h6) (Some c) o (d ∷ vs) (link_in f d CLASS_PREV) None) (sym c_next6) run_6))));
       none = λ e. absurd cc;
     }
 
@@ -644,10 +672,7 @@ module _ (f : ℕ → Option HeldCell) (m c : ℕ) (xs : List ℕ) (t : ClassTre
 
   module _ (xs' vs : List ℕ) (nx : ℕ) (lists : (r : ℕ × ℕ) → is_key r p ≡ false → of_class f r xs' ≡ of_class f r xs) (cut : zs ≡ c ∷ nx ∷ vs) (inside : of_class f p xs' ≡ nx ∷ vs) (pa pb : ClassTree) (is_x : (place_in f p m t).tree ≡ Fork c pa pb) where
     abbrev g1 : ℕ → Option HeldCell
-    g1 = link_written f nx CLASS_PREV None
-
-    abbrev g2 : ℕ → Option HeldCell
-    g2 = link_written g1 nx CLASS_LAST (link_in f c CLASS_LAST)
+    g1 = link_written f nx CLASS_PREV (link_in f c CLASS_PREV)
 
     abbrev g4 : ℕ → Option HeldCell
     g4 = passed f (place_in f p m t).holder (place_in f p m t).link c nx
@@ -661,11 +686,8 @@ module _ (f : ℕ → Option HeldCell) (m c : ℕ) (xs : List ℕ) (t : ClassTre
     once_g : Distinct (c ∷ nx ∷ vs)
     once_g = subst Distinct cut zs_once
 
-    run_g : RunsThrough (class_node f) None (Some c) (c ∷ nx ∷ vs) (link_in f c CLASS_LAST) None
-    run_g = subst (λ ws. RunsThrough (class_node f) None (Some c) ws (link_in f c CLASS_LAST) None) cut (lead_key c (x_ls c pa pb is_x).0 (x_ls c pa pb is_x).1)
-
-    next_g : link_in f c CLASS_NEXT ≡ Some nx
-    next_g = run_g.2.0
+    run_g : RunsRound f c (c ∷ nx ∷ vs)
+    run_g = subst (λ ws. RunsRound f c ws) cut (lead_key c (x_ls c pa pb is_x).0 (x_ls c pa pb is_x).1)
 
     no_nx : In nx ls → ⊥
     no_nx i = each_in (λ u. c ≢ u) (nx ∷ vs) nx once_g.0 (inl refl) (same_lead c pa pb is_x nx i key_nx)
@@ -673,43 +695,39 @@ module _ (f : ℕ → Option HeldCell) (m c : ℕ) (xs : List ℕ) (t : ClassTre
     nx_not_m : nx ≢ m
     nx_not_m e = no_m (subst (λ u. In u xs) e (zs_in nx nx_zs).0)
 
-    touches_2 : Touches f g2 m xs p
-    touches_2 = touches_own f g1 m xs p (touches_own f f m xs p (touches_none f m xs p) nx CLASS_PREV None (zs_in nx nx_zs).0 key_nx (omega arith)) nx CLASS_LAST (link_in f c CLASS_LAST) (zs_in nx nx_zs).0 key_nx (omega arith)
+    touches_1 : Touches f g1 m xs p
+    touches_1 = touches_own f f m xs p (touches_none f m xs p) nx CLASS_PREV (link_in f c CLASS_PREV) (zs_in nx nx_zs).0 key_nx (omega arith)
 
     -- what is left as it was
     pub passed_touches : Touches f g4 m xs p
-    passed_touches = touches_taken f g2 m xs p touches_2 (place_in f p m t).holder (place_in f p m t).link c nx (zs_in nx nx_zs).0 (holds_atoms f m xs t old no_m p)
+    passed_touches = touches_taken f g1 m xs p touches_1 (place_in f p m t).holder (place_in f p m t).link c nx (zs_in nx nx_zs).0 (holds_atoms f m xs t old no_m p)
 
     there_nx : IsSome (f nx)
     there_nx = alive nx (zs_in nx nx_zs).0
 
-    down_g : (b j : ℕ) → j ≢ EVEN → j ≢ ODD → j ≢ CLASS_LAST → link_in g4 b j ≡ link_in g1 b j
-    down_g b j x y z = taken_place f m xs t old no_m p g2 c nx b j x y ∙ link_far g1 nx CLASS_LAST (link_in f c CLASS_LAST) b j z
+    down_g : (b j : ℕ) → j ≢ EVEN → j ≢ ODD → j ≢ LEADERS → link_in g4 b j ≡ link_in g1 b j
+    down_g b j x y z = taken_place f m xs t old no_m p g1 c nx b j x y z
 
     g_next : (b : ℕ) → link_in g4 b CLASS_NEXT ≡ link_in f b CLASS_NEXT
-    g_next b = down_g b CLASS_NEXT (λ e. absurd (omega (arith, e))) (λ e. absurd (omega (arith, e))) (λ e. absurd (omega (arith, e))) ∙ link_far f nx CLASS_PREV None b CLASS_NEXT (λ e. absurd (omega (arith, e)))
+    g_next b = down_g b CLASS_NEXT (λ e. absurd (omega (arith, e))) (λ e. absurd (omega (arith, e))) (λ e. absurd (omega (arith, e))) ∙ link_far f nx CLASS_PREV (link_in f c CLASS_PREV) b CLASS_NEXT (λ e. absurd (omega (arith, e)))
 
-    passed_left : Left (class_node f) (class_node g4) c (link_in f c CLASS_PREV) (link_in f c CLASS_NEXT)
-    passed_left = record {
-      other = λ z n a b t. record { prev = (down_g z CLASS_PREV (λ e. absurd (omega (arith, e))) (λ e. absurd (omega (arith, e))) (λ e. absurd (omega (arith, e))) ∙ link_by f nx CLASS_PREV None z CLASS_PREV (λ s. b (next_g ∙ ap Some (sym s)))) t; next = g_next z t };
-      before = λ z n a b. absurd (let s : ◌≡◌ {A = Option ℕ} (Some z) None = sym a ∙ run_g.1 in cc);
-      behind = λ z n a b t. (let s : ◌≡◌ {A = Option ℕ} (Some z) (Some nx) = sym b ∙ next_g in let r : z ≡ nx = cc in record {
-        prev = (ap (λ u. link_in g4 u CLASS_PREV) r ∙ down_g nx CLASS_PREV (λ e. absurd (omega (arith, e))) (λ e. absurd (omega (arith, e))) (λ e. absurd (omega (arith, e))) ∙ link_at f nx CLASS_PREV None (have nx there_nx) (omega arith) ∙ sym run_g.1) t;
-        next = g_next z t;
-      });
-    }
+    nx_prev : link_in g4 nx CLASS_PREV ≡ link_in f c CLASS_PREV
+    nx_prev = down_g nx CLASS_PREV (λ e. absurd (omega (arith, e))) (λ e. absurd (omega (arith, e))) (λ e. absurd (omega (arith, e))) ∙ link_at f nx CLASS_PREV (link_in f c CLASS_PREV) (have nx there_nx) (omega arith)
 
-    last_g : link_in g4 nx CLASS_LAST ≡ link_in f c CLASS_LAST
-    last_g = taken_place f m xs t old no_m p g2 c nx nx CLASS_LAST (λ e. absurd (omega (arith, e))) (λ e. absurd (omega (arith, e))) ∙ link_at g1 nx CLASS_LAST (link_in f c CLASS_LAST) (length_kept f nx CLASS_PREV None nx ∙ have nx there_nx) (omega arith)
+    -- the others of the class, with the last one before the first of them
+    run_nx : RunsThrough (class_node g4) (link_in f c CLASS_PREV) (Some nx) (nx ∷ vs) (link_in f c CLASS_PREV) None
+    run_nx = relink_start (class_node f) (class_node g4) (Some c) (Some nx) nx vs (link_in f c CLASS_PREV) None (link_in f c CLASS_PREV) (refl, run_g.2.1, run_g.2.2)
+        (λ t. record { prev = nx_prev t; next = g_next nx t })
+        (each_of _ vs (λ z i t. record { prev = (down_g z CLASS_PREV (λ e. absurd (omega (arith, e))) (λ e. absurd (omega (arith, e))) (λ e. absurd (omega (arith, e))) ∙ link_by f nx CLASS_PREV (link_in f c CLASS_PREV) z CLASS_PREV (λ e. each_in (λ u. nx ≢ u) vs z once_g.1.0 i (sym e))) t; next = g_next z t }))
 
-    there_g2 : (b : ℕ) → IsSome (f b) → IsSome (g2 b)
-    there_g2 b s = touches_there f g2 m xs p touches_2 b s
+    there_g1 : (b : ℕ) → IsSome (f b) → IsSome (g1 b)
+    there_g1 b s = touches_there f g1 m xs p touches_1 b s
 
-    long_g2 : (z : ℕ) → IsSome (f z) → length (links_of (g2 z)) ≡ 8
-    long_g2 z s = touches_2.lengths z ∙ have z s
+    long_g1 : (z : ℕ) → IsSome (f z) → length (links_of (g1 z)) ≡ 8
+    long_g1 z s = touches_1.lengths z ∙ have z s
 
-    agree_g : (b j : ℕ) → (j ≡ EVEN) ⊎ (j ≡ ODD) → link_in g2 b j ≡ link_in f b j
-    agree_g b j o = link_far g1 nx CLASS_LAST (link_in f c CLASS_LAST) b j (λ e. not_side j o (inr (inr e))) ∙ link_far f nx CLASS_PREV None b j (λ e. not_side j o (inr (inl e)))
+    agree_g : (b j : ℕ) → (j ≡ EVEN) ⊎ ((j ≡ ODD) ⊎ (j ≡ LEADERS)) → link_in g1 b j ≡ link_in f b j
+    agree_g b j o = link_far f nx CLASS_PREV (link_in f c CLASS_PREV) b j (λ e. not_side j o (inr e))
 
     -- the classes then
     pub passed_classed : AreClassed g4 m xs' ((at f m xs t old no_m p).hole.fill (Fork nx pa pb))
@@ -717,18 +735,14 @@ module _ (f : ℕ → Option HeldCell) (m c : ℕ) (xs : List ℕ) (t : ClassTre
       keys = touches_keys f g4 m xs p passed_touches;
       lists = lists;
       nodes = λ z _ e. passed_touches.nodes z e;
-      lasts = λ k _ e. passed_touches.lasts k e;
-      tree = lead_tree c pa pb is_x nx key_nx no_nx there_nx nx_not_m g2 there_g2 long_g2 agree_g;
-      sorted = lead_sorted c pa pb is_x nx key_nx no_nx there_nx nx_not_m g2 there_g2 long_g2 agree_g;
-      stay = lead_stay c pa pb is_x nx key_nx no_nx there_nx nx_not_m g2 there_g2 long_g2 agree_g;
-      were = lead_were c pa pb is_x nx key_nx no_nx there_nx nx_not_m g2 there_g2 long_g2 agree_g;
-      heads = lead_heads c pa pb is_x nx key_nx no_nx there_nx nx_not_m g2 there_g2 long_g2 agree_g;
-      headed = lead_headed c pa pb is_x nx key_nx no_nx there_nx nx_not_m g2 there_g2 long_g2 agree_g;
-      run = λ l e. (let s : nx ≡ l = cc in subst (λ ws. RunsThrough (class_node g4) None (Some l) ws (link_in g4 l CLASS_LAST) None) (sym inside) (subst (λ u. RunsThrough (class_node g4) None (Some u) (nx ∷ vs) (link_in g4 u CLASS_LAST) None) s
-          (subst (λ o. RunsThrough (class_node g4) None (Some nx) (nx ∷ vs) o None) (sym last_g)
-          (subst (λ o. RunsThrough (class_node g4) None (begins (Some c) o (Some nx)) (nx ∷ vs) (ends (link_in f c CLASS_LAST) (Some nx) o) None) run_g.1
-          (subst (λ o. RunsThrough (class_node g4) None (begins (Some c) (link_in f c CLASS_PREV) o) (nx ∷ vs) (ends (link_in f c CLASS_LAST) o (link_in f c CLASS_PREV)) None) next_g
-          (leaves (class_node f) (class_node g4) (Some c) (link_in f c CLASS_LAST) [] c (nx ∷ vs) passed_left once_g run_g))))));
+      tree = lead_tree c pa pb is_x nx key_nx no_nx there_nx nx_not_m g1 there_g1 long_g1 agree_g;
+      sorted = lead_sorted c pa pb is_x nx key_nx no_nx there_nx nx_not_m g1 there_g1 long_g1 agree_g;
+      stay = lead_stay c pa pb is_x nx key_nx no_nx there_nx nx_not_m g1 there_g1 long_g1 agree_g;
+      were = lead_were c pa pb is_x nx key_nx no_nx there_nx nx_not_m g1 there_g1 long_g1 agree_g;
+      heads = lead_heads c pa pb is_x nx key_nx no_nx there_nx nx_not_m g1 there_g1 long_g1 agree_g;
+      headed = lead_headed c pa pb is_x nx key_nx no_nx there_nx nx_not_m g1 there_g1 long_g1 agree_g;
+      run = λ l e. (let s : nx ≡ l = cc in subst (λ ws. RunsRound g4 l ws) (sym inside) (subst (λ u. RunsRound g4 u (nx ∷ vs)) s
+          (subst (λ o. RunsThrough (class_node g4) o (Some nx) (nx ∷ vs) o None) (sym nx_prev) run_nx)));
       none = λ e. absurd cc;
     }
 
@@ -755,7 +769,6 @@ module _ (f : ℕ → Option HeldCell) (m c : ℕ) (xs : List ℕ) (t : ClassTre
         keys = touches_keys f g m xs p touched;
         lists = lists;
         nodes = λ z _ e. touched.nodes z e;
-        lasts = λ k _ e. touched.lasts k e;
         tree = tree;
         sorted = fill_sorted f m xs t old no_m p u sub_k sup_k sorted;
         stay = fill_stay f m xs t old no_m p u sub_k sup_k;

@@ -1,11 +1,11 @@
 -- What is written to the links of classes.
-use Rattle.std.proofs.Common.{◌≡◌, ◌≢◌, ◌<◌, ℕ, true, false, List, length, get_or, Option, IsSome, refl, sym, ap, subst, ◌∙◌, inl, inr, arith}
+use Rattle.std.proofs.Common.{◌≡◌, ◌<◌, ℕ, true, false, List, length, get_or, Option, IsSome, refl, sym, ap, subst, ◌∙◌, inl, inr, arith}
 use Rattle.lmn_base.specs.Lists.{In}
-use Rattle.lmn_web_cells.specs.Cells.{HeldCell, links_of, with_link}
+use Rattle.lmn_web_cells.specs.Cells.{HeldCell, IsLinkWord, links_of, numbers_of, with_link}
 use Rattle.lmn_web_cells.proofs.LineLemmas.{still_there, link_other, keeps, count_links}
 use Rattle.lmn_web_cells.specs.Numbers.{HIGH, ARITY}
 use Rattle.lmn_web.specs.Classes.{AllButLinks, Touches, key_in, is_key, link_written}
-use Rattle.lmn_web_cells.specs.Links.{CLASS_NEXT, CLASS_PREV, CLASS_LAST, LEADERS}
+use Rattle.lmn_web_cells.specs.Links.{CLASS_NEXT, CLASS_PREV, LEADERS}
 use Rattle.lmn_web.proofs.ClassTrees.{Holds}
 use Rattle.lmn_web.proofs.RelistLemmas.{rest_link}
 
@@ -19,9 +19,18 @@ kept f g a k v x e t = subst (λ (h : ℕ → Option HeldCell). IsSome (h x)) (s
 pub length_kept : (f : ℕ → Option HeldCell) (a k : ℕ) (v : Option ℕ) (x : ℕ) → length (links_of (link_written f a k v x)) ≡ length (links_of (f x))
 length_kept f a k v x = keeps (λ o. length (links_of o)) f a (with_link k v) (count_links k v) x
 
+-- and as many numbers
+pub numbers_kept : (f g : ℕ → Option HeldCell) (a k : ℕ) (v : Option ℕ) (x : ℕ) → g ≡ link_written f a k v → length (numbers_of (g x)) ≡ length (numbers_of (f x))
+numbers_kept f g a k v x e = ap (λ (h : ℕ → Option HeldCell). length (numbers_of (h x))) e ∙ ap (λ (r : AllButLinks). length r.numbers) (rest_link f a k v x)
+
+-- a word of a link is one
+pub word_kept : (f g : ℕ → Option HeldCell) (a k : ℕ) (v : Option ℕ) (x word : ℕ) → g ≡ link_written f a k v → IsLinkWord (f x) word → IsLinkWord (g x) word
+word_kept f g a k v x word e (inl low) = inl low
+word_kept f g a k v x word e (inr last) = inr (last.0, numbers_kept f g a k v x e ∙ last.1)
+
 -- nothing was written
 pub touches_none : (f : ℕ → Option HeldCell) (m : ℕ) (xs : List ℕ) (p : ℕ × ℕ) → Touches f f m xs p
-touches_none f m xs p = record { rests = λ b. refl; lengths = λ b. refl; links = λ b j l. refl; away = λ b j o d. refl; nodes = λ z e. refl; lasts = λ z e. refl }
+touches_none f m xs p = record { rests = λ b. refl; lengths = λ b. refl; links = λ b j l. refl; away = λ b j o d. refl; nodes = λ z e. refl }
 
 -- a write to a cell of the class
 pub touches_own : (f g : ℕ → Option HeldCell) (m : ℕ) (xs : List ℕ) (p : ℕ × ℕ) → Touches f g m xs p → (a k : ℕ) (v : Option ℕ) → In a xs → is_key (key_in f a) p ≡ true → 2 < k → Touches f (link_written g a k v) m xs p
@@ -31,21 +40,19 @@ touches_own f g m xs p t a k v i own low = record {
   links = λ b j l. link_other g a k v b j (λ e. absurd (omega (arith, e, l, low))) ∙ t.links b j l;
   away = λ b j o d. link_other g a k v b j (λ _ s. o (subst (λ u. In u xs) (sym s) i)) ∙ t.away b j o d;
   nodes = λ z e. (λ u. record { prev = link_other g a k v z CLASS_PREV (λ _ s. other z e s) u; next = link_other g a k v z CLASS_NEXT (λ _ s. other z e s) u }) ∙ t.nodes z e;
-  lasts = λ z e. link_other g a k v z CLASS_LAST (λ _ s. other z e s) ∙ t.lasts z e;
 }
   where
     other : (z : ℕ) → is_key (key_in f z) p ≡ false → z ≡ a → ⊥
     other z e s = let w : true ≡ false = sym own ∙ ap (λ u. is_key (key_in f u) p) (sym s) ∙ e in absurd cc
 
 -- a write to a link to other classes
-touches_side : (f g : ℕ → Option HeldCell) (m : ℕ) (xs : List ℕ) (p : ℕ × ℕ) → Touches f g m xs p → (a k : ℕ) (v : Option ℕ) → In a xs → 4 < k → k ≢ CLASS_LAST → Touches f (link_written g a k v) m xs p
-touches_side f g m xs p t a k v i low not_last = record {
+touches_side : (f g : ℕ → Option HeldCell) (m : ℕ) (xs : List ℕ) (p : ℕ × ℕ) → Touches f g m xs p → (a k : ℕ) (v : Option ℕ) → In a xs → 4 < k → Touches f (link_written g a k v) m xs p
+touches_side f g m xs p t a k v i low = record {
   rests = λ b. rest_link g a k v b ∙ t.rests b;
   lengths = λ b. length_kept g a k v b ∙ t.lengths b;
   links = λ b j l. link_other g a k v b j (λ e. absurd (omega (arith, e, l, low))) ∙ t.links b j l;
   away = λ b j o d. link_other g a k v b j (λ _ s. o (subst (λ u. In u xs) (sym s) i)) ∙ t.away b j o d;
   nodes = λ z e. (λ u. record { prev = link_other g a k v z CLASS_PREV (λ n. absurd (omega (arith, n, low))) u; next = link_other g a k v z CLASS_NEXT (λ n. absurd (omega (arith, n, low))) u }) ∙ t.nodes z e;
-  lasts = λ z e. link_other g a k v z CLASS_LAST (λ n. absurd (not_last (sym n))) ∙ t.lasts z e;
 }
 
 -- a write to where the tree begins
@@ -56,14 +63,13 @@ touches_head f g m xs p t v = record {
   links = λ b j l. link_other g m LEADERS v b j (λ e. absurd (omega (arith, e, l))) ∙ t.links b j l;
   away = λ b j o d. link_other g m LEADERS v b j (λ e s. d s e) ∙ t.away b j o d;
   nodes = λ z e. (λ u. record { prev = link_other g m LEADERS v z CLASS_PREV (λ n. absurd (omega (arith, n))) u; next = link_other g m LEADERS v z CLASS_NEXT (λ n. absurd (omega (arith, n))) u }) ∙ t.nodes z e;
-  lasts = λ z e. link_other g m LEADERS v z CLASS_LAST (λ n. absurd (omega (arith, n))) ∙ t.lasts z e;
 }
 
 -- a write to a link of the tree
 pub touches_tree : (f g : ℕ → Option HeldCell) (m : ℕ) (xs : List ℕ) (p : ℕ × ℕ) → Touches f g m xs p → (a k : ℕ) (v : Option ℕ) → Holds m LEADERS xs a k → Touches f (link_written g a k v) m xs p
 touches_tree f g m xs p t a k v (inl e) = subst (λ (u : ℕ × ℕ). Touches f (link_written g u.0 u.1 v) m xs p) (λ i. (sym e.0 i, sym e.1 i)) (touches_head f g m xs p t v)
-touches_tree f g m xs p t a k v (inr (i, inl e)) = touches_side f g m xs p t a k v i (omega (arith, e)) (λ s. absurd (omega (arith, e, s)))
-touches_tree f g m xs p t a k v (inr (i, inr e)) = touches_side f g m xs p t a k v i (omega (arith, e)) (λ s. absurd (omega (arith, e, s)))
+touches_tree f g m xs p t a k v (inr (i, inl e)) = touches_side f g m xs p t a k v i (omega (arith, e))
+touches_tree f g m xs p t a k v (inr (i, inr e)) = touches_side f g m xs p t a k v i (omega (arith, e))
 
 -- the keys are as they were
 pub touches_keys : (f g : ℕ → Option HeldCell) (m : ℕ) (xs : List ℕ) (p : ℕ × ℕ) → Touches f g m xs p → (b : ℕ) → key_in g b ≡ key_in f b

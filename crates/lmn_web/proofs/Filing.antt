@@ -1,5 +1,5 @@
 -- The classes of a web stay, and follow its lists.
-use Rattle.std.proofs.Common.{◌≡◌, ◌≢◌, ◌==◌, ◌+◌, ◌<◌, ◌≤◌, ◌^◌, Bool, true, false, ℕ, List, [], ◌∷◌, get_or, Option, Some, None, IsSome, refl, sym, ap, subst, ◌∙◌, inl, inr, arith}
+use Rattle.std.proofs.Common.{◌≡◌, ◌≢◌, ◌==◌, ◌+◌, ◌<◌, ◌≤◌, ◌^◌, Bool, true, false, ℕ, List, [], ◌∷◌, length, get_or, Option, Some, None, IsSome, refl, sym, ap, subst, ◌∙◌, inl, inr, arith}
 use Rattle.std.proofs.lemmas.Bool.{cases_eq, eqb-true}
 use Rattle.std.specs.Option.{option_map}
 use Rattle.lmn_base.specs.Lists.{In}
@@ -9,7 +9,7 @@ use Rattle.lmn_store_heap.proofs.Listing.{alter_at, alter_away}
 use Rattle.lmn_store_heap.proofs.ListLemmas.{each_in, each_of}
 use Rattle.lmn_web_cells.specs.Cells.{HeldCell, links_of, numbers_of, with_link, with_number}
 use Rattle.lmn_web_cells.specs.Runs.{RunsThrough, node_in, link_in, Line, put_before, with_next, with_prev, appended, inserted, unlinked}
-use Rattle.lmn_web_cells.specs.Links.{HOME, NEXT, PREV, CLASS_NEXT, CLASS_PREV, CLASS_LAST, EVEN, ODD, LEADERS}
+use Rattle.lmn_web_cells.specs.Links.{HOME, NEXT, PREV, CLASS_NEXT, CLASS_PREV, EVEN, ODD, LEADERS}
 use Rattle.lmn_web_cells.proofs.LineLemmas.{keeps, link_other}
 use Rattle.lmn_web_cells.proofs.RunLemmas.{frame}
 use Rattle.lmn_web.specs.declared.kind.CellKind.{CellKind}
@@ -17,8 +17,8 @@ use Rattle.lmn_web.specs.declared.kind.CellKind.TheVariants.{Atom, Membrane}
 use Rattle.lmn_web.specs.Kinds.{FILED, kind_by}
 use Rattle.lmn_web.specs.Webs.{list_in, list_link, count_number, number_in}
 use Rattle.lmn_web_cells.specs.Numbers.{ARITY, KIND, HIGH, LOW}
-use Rattle.lmn_web.specs.Indexes.{described, blank_by, cell_kind, IsListed, IsWeb, IsClassed, IsClassedWeb}
-use Rattle.lmn_web.specs.Classes.{AllButLinks, ClassTree, Bare, IsTree, files, class_node, key_in, is_key, of_class, AreClassed, MayFile, MayEnter, MayLeave, ClassBecomes, Touches, Refiled, FiledAs, put_at}
+use Rattle.lmn_web.specs.Indexes.{described, blank_by, numbers_by, cell_kind, IsListed, IsWeb, IsClassed, IsClassedWeb}
+use Rattle.lmn_web.specs.Classes.{AllButLinks, ClassTree, Bare, IsTree, files, class_node, key_in, is_key, of_class, RunsRound, AreClassed, MayFile, MayEnter, MayLeave, ClassBecomes, Touches, Refiled, FiledAs, put_at}
 use Rattle.lmn_web.proofs.ListedLemmas.{same_lists, lists_same, cell_of}
 use Rattle.lmn_web.proofs.WebLemmas.{Told, told, made_web, made_lists, no_list}
 use Rattle.lmn_web.proofs.RelistLemmas.{Core, Relists, relists_web, in_none, new, new_lists, each, kind_is, there, m_there, core_of, back, core_rest}
@@ -39,6 +39,10 @@ filed_atom f m Membrane e = absurd (not_true e)
 pub files_inside : (f : ℕ → Option HeldCell) (m : ℕ) → files f m Atom ≡ true → cell_kind f m ≡ Atom → ⊥
 files_inside f m e s = let n = eqb-true (number_in f m KIND) FILED e in let z : Membrane ≡ Atom = ap kind_by (sym n) ∙ s in cc
 
+-- a membrane has eight numbers, where it files
+pub filed_membrane : (f : ℕ → Option HeldCell) (made m : ℕ) → IsWeb f made → IsSome (f m) → files f m Atom ≡ true → length (numbers_of (f m)) ≡ 8
+filed_membrane f made m w there e = let n = eqb-true (number_in f m KIND) FILED e in w.numbers m there ∙ ap numbers_by n
+
 -- Classes stay
 
 -- where the links of its atoms to each other, and its own to the first class, are as they were
@@ -55,10 +59,10 @@ module _ (f g : ℕ → Option HeldCell) (m : ℕ) (xs : List ℕ) (t : ClassTre
     inside = c.inside;
     every = λ x i. let o = c.every x i in (o.0, o.1, keys o.0 (c.inside o.0 o.1) ∙ o.2 ∙ sym (keys x i));
     runs = λ l i. let q = key_in f l in let il = c.inside l i in
-        subst (λ r. RunsThrough (class_node g) None (Some l) (of_class g r xs) (link_in g l CLASS_LAST) None) (sym (keys l il))
-        (subst (λ us. RunsThrough (class_node g) None (Some l) us (link_in g l CLASS_LAST) None) (sym (list_kept q))
-        (subst (λ o. RunsThrough (class_node g) None (Some l) (of_class f q xs) o None) (sym (links l CLASS_LAST il (omega arith)))
-        (frame (class_node f) (class_node g) None (Some l) (of_class f q xs) (link_in f l CLASS_LAST) None
+        subst (λ r. RunsRound g l (of_class g r xs)) (sym (keys l il))
+        (subst (λ us. RunsRound g l us) (sym (list_kept q))
+        (subst (λ o. RunsThrough (class_node g) o (Some l) (of_class f q xs) o None) (sym (links l CLASS_PREV il (omega arith)))
+        (frame (class_node f) (class_node g) (link_in f l CLASS_PREV) (Some l) (of_class f q xs) (link_in f l CLASS_PREV) None
         (each_of _ (of_class f q xs) (λ z j. let w = (in_filter (λ a. is_key (key_in f a) q) z xs j).0 in λ u. record { prev = links z CLASS_PREV w (omega arith) u; next = links z CLASS_NEXT w (omega arith) u })) (c.runs l i))));
   }
 
@@ -220,6 +224,14 @@ low_core : (o : Option HeldCell) → get_or (numbers_of o) LOW 0 ≡ low_by_core
 low_core None = refl
 low_core (Some c) = refl
 
+abbrev count_by_core : Option Core → ℕ
+count_by_core None = 0
+count_by_core (Some q) = q.numbers
+
+count_core : (o : Option HeldCell) → length (numbers_of o) ≡ count_by_core (core_of o)
+count_core None = refl
+count_core (Some c) = refl
+
 abbrev number_by_core : Option Core → ℕ
 number_by_core None = 0
 number_by_core (Some q) = q.kind
@@ -277,6 +289,7 @@ module _ (f F : ℕ → Option HeldCell) (made : ℕ) (w : IsClassedWeb f made) 
         once = (w.web.listed.line m Atom r.membrane).once;
         alive = λ z i. stay z (cell_of f (list_in f) w.web.listed m z Atom i).0;
         there_m = stay m (m_there f F (list_in f) w.web.listed m x h xs r);
+        membrane = count_core (F m) ∙ ap count_by_core (r.cores m) ∙ sym (count_core (f m)) ∙ filed_membrane f made m w.web (m_there f F (list_in f) w.web.listed m x h xs r) (ap (files f m) (sym atom) ∙ filed);
         there_c = stay x t;
         no_m = λ i. no_m m m i refl;
         not_m = r.differ;

@@ -1,5 +1,5 @@
 -- The lists of a web: how they are read off its cells, and which changes keep them.
-use Rattle.std.proofs.Common.{◌≡◌, ◌≢◌, ◌⊎◌, ℕ, suc, ◌+◌, ◌<◌, Bool, false, List, [], ◌∷◌, ◌++◌, length, get_or, Option, Some, None, IsSome, IfSome, MatchOption, is_some, refl, sym, ap, subst, ◌∙◌, inl, inr, arith}
+use Rattle.std.proofs.Common.{◌≡◌, ◌≢◌, ◌⊎◌, ℕ, suc, ◌+◌, ◌<◌, Bool, true, false, List, [], ◌∷◌, ◌++◌, length, get_or, Option, Some, None, IsSome, IfSome, MatchOption, is_some, refl, sym, ap, subst, ◌∙◌, inl, inr, arith}
 use Rattle.std.proofs.lemmas.Bool.{cases_eq, eq-eqb}
 use Rattle.std.specs.Option.{option_map}
 use Rattle.lmn_base.specs.Lists.{In}
@@ -33,7 +33,7 @@ link_behind Atom = omega arith
 link_behind Membrane = omega arith
 
 -- and they are links of a cell
-pub link_below : (k : CellKind) → list_link k + 1 < 8
+pub link_below : (k : CellKind) → list_link k + 1 < 7
 link_below Atom = omega arith
 link_below Membrane = omega arith
 
@@ -204,11 +204,11 @@ run_begins h before first (u ∷ us) last r = subst (λ o. from o (u ∷ us) ≡
     front = rw (eq-eqb u u refl) refl
 
 -- what follows a cell of it
-pub run_goes_on : (h : ℕ → Node) (first last : Option ℕ) (x : ℕ) (xs : List ℕ) → RunsThrough h None first xs last None → Distinct xs → In x xs → from (h x).next xs ≡ after x xs
-run_goes_on h first last x xs run once i =
+pub run_goes_on : (h : ℕ → Node) (before first last : Option ℕ) (x : ℕ) (xs : List ℕ) → RunsThrough h before first xs last None → Distinct xs → In x xs → from (h x).next xs ≡ after x xs
+run_goes_on h before first last x xs run once i =
     let s = in_split x xs i in
     let behind : after x xs ≡ s.1 = ap (after x) s.2 ∙ after_split x s.0 s.1 (subst Distinct s.2 once) in
-    let r = split h None first s.0 (x ∷ s.1) last None (subst (λ us. RunsThrough h None first us last None) s.2 run) in
+    let r = split h before first s.0 (x ∷ s.1) last None (subst (λ us. RunsThrough h before first us last None) s.2 run) in
     next (h x).next s.1 last behind r.3.2
   where
     next : (o : Option ℕ) (zs : List ℕ) (end : Option ℕ) → after x xs ≡ zs → RunsThrough h (Some x) o zs end None → from o xs ≡ after x xs
@@ -221,7 +221,7 @@ begins_list f m e xs l = run_begins (node_in f) None (link_in f m e) xs (link_in
 
 -- what follows a cell of it
 pub goes_on : (f : ℕ → Option HeldCell) (m e x : ℕ) (xs : List ℕ) → Line f m e xs → In x xs → from (link_in f x NEXT) xs ≡ after x xs
-goes_on f m e x xs l i = run_goes_on (node_in f) (link_in f m e) (link_in f m (e + 1)) x xs l.runs l.once i
+goes_on f m e x xs l i = run_goes_on (node_in f) None (link_in f m e) (link_in f m (e + 1)) x xs l.runs l.once i
 
 -- where a run ends: at its last cell, or before its beginning
 pub run_ends : (h : ℕ → Node) (before first : Option ℕ) (us : List ℕ) (last : Option ℕ) → RunsThrough h before first us last None
@@ -259,6 +259,11 @@ first_of_list f m e x xs l i n = by (link_in f m e) xs l.runs i
 pub none_told : {X : Type 0} (id : X → ℕ) (o : Option X) → is_some o ≡ false → option_map id o ≡ None
 none_told id None e = refl
 none_told id (Some x) e = absurd (cc)
+
+-- and so is one with something
+pub some_told : {X : Type 0} (id : X → ℕ) (o : Option X) (p : Option ℕ) → p ≡ option_map id o → is_some o ≡ true → IsSome p
+some_told id None p e t = absurd (cc)
+some_told id (Some x) p e t = subst IsSome (sym e) refl
 
 -- what an option that is told by numbers matches
 pub matched_by : {X : Type 0} (id : X → ℕ) (r : Option X) (N : Type 0) (P : ℕ → Type 0) → (option_map id r ≡ None → N) → ((q : ℕ) → option_map id r ≡ Some q → P q) → MatchOption r N (λ x. P (id x))

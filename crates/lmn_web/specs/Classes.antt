@@ -6,7 +6,7 @@ use Rattle.std.specs.Option.{option_map}
 use Rattle.lmn_store_heap.specs.Heap.{alter}
 use Rattle.lmn_web_cells.specs.Cells.{HeldPort, HeldCell, links_of, numbers_of, ports_of, with_link}
 use Rattle.lmn_web_cells.specs.Runs.{Node, RunsThrough, link_in, put_before}
-use Rattle.lmn_web_cells.specs.Links.{CLASS_NEXT, CLASS_PREV, CLASS_LAST, EVEN, ODD, LEADERS}
+use Rattle.lmn_web_cells.specs.Links.{CLASS_NEXT, CLASS_PREV, EVEN, ODD, LEADERS}
 use Rattle.lmn_web.specs.Webs.{number_in}
 use Rattle.lmn_web_cells.specs.Numbers.{ARITY, HIGH, KIND}
 use Rattle.lmn_web.specs.declared.kind.CellKind.{CellKind}
@@ -70,13 +70,17 @@ abbrev pub IsSorted : (ℕ → Option HeldCell) → ℕ → ClassTree → Type 0
 IsSorted f d Bare = Unit {0}
 IsSorted f d (Fork l a b) = AreBeside f l d false (leaders a) × AreBeside f l d true (leaders b) × IsSorted f (suc d) a × IsSorted f (suc d) b
 
+-- zs is linked one behind the other from l on, and before l stands the last of them
+abbrev pub RunsRound : (ℕ → Option HeldCell) → ℕ → List ℕ → Type 0
+RunsRound f l zs = RunsThrough (class_node f) (link_in f l CLASS_PREV) (Some l) zs (link_in f l CLASS_PREV) None
+
 -- t has the first atoms of the classes of m, whose atoms are xs
 pub record AreClassed (f : ℕ → Option HeldCell) (m : ℕ) (xs : List ℕ) (t : ClassTree) : Type 0 where
   pub tree : IsTree f (link_in f m LEADERS) t
   pub sorted : IsSorted f 0 t
   pub inside : (l : ℕ) → In l (leaders t) → In l xs
   pub every : (x : ℕ) → In x xs → (l : ℕ) × In l (leaders t) × (key_in f l ≡ key_in f x)
-  pub runs : (l : ℕ) → In l (leaders t) → RunsThrough (class_node f) None (Some l) (of_class f (key_in f l) xs) (link_in f l CLASS_LAST) None
+  pub runs : (l : ℕ) → In l (leaders t) → RunsRound f l (of_class f (key_in f l) xs)
 
 -- where a class stands or is missing: the cell and the link at which it hangs, the depth, and the tree from there on
 pub record ClassPlace : Type 0 where
@@ -125,11 +129,11 @@ taken_over f h k c n = link_written (link_written (link_written f n EVEN (link_i
 
 -- c begins a class of its own, at link k of h
 abbrev pub begun : (ℕ → Option HeldCell) → ℕ → ℕ → ℕ → ℕ → Option HeldCell
-begun f h k c = link_written (link_written (link_written (link_written (link_written (link_written f c CLASS_NEXT None) c CLASS_PREV None) c CLASS_LAST (Some c)) c EVEN None) c ODD None) h k (Some c)
+begun f h k c = link_written (link_written (link_written (link_written (link_written f c CLASS_NEXT None) c CLASS_PREV (Some c)) c EVEN None) c ODD None) h k (Some c)
 
 -- c stands behind q, the last one of the class of l
 abbrev pub lengthened : (ℕ → Option HeldCell) → ℕ → ℕ → ℕ → ℕ → Option HeldCell
-lengthened f l q c = link_written (link_written (link_written (link_written f c CLASS_NEXT None) c CLASS_PREV (Some q)) q CLASS_NEXT (Some c)) l CLASS_LAST (Some c)
+lengthened f l q c = link_written (link_written (link_written (link_written f c CLASS_NEXT None) c CLASS_PREV (Some q)) q CLASS_NEXT (Some c)) l CLASS_PREV (Some c)
 
 -- c stands between p and d
 abbrev pub put_between : (ℕ → Option HeldCell) → ℕ → ℕ → ℕ → ℕ → Option HeldCell
@@ -137,7 +141,7 @@ put_between f p d c = link_written (link_written (link_written (link_written f c
 
 -- c leads in the place of d, which stands behind it
 abbrev pub put_first : (ℕ → Option HeldCell) → ℕ → ℕ → ℕ → ℕ → ℕ → Option HeldCell
-put_first f h k d c = taken_over (link_written (link_written (link_written (link_written f c CLASS_NEXT (Some d)) c CLASS_PREV None) d CLASS_PREV (Some c)) c CLASS_LAST (link_in f d CLASS_LAST)) h k d c
+put_first f h k d c = taken_over (link_written (link_written (link_written f c CLASS_NEXT (Some d)) c CLASS_PREV (link_in f d CLASS_PREV)) d CLASS_PREV (Some c)) h k d c
 
 -- what stood between p and n has left
 abbrev pub closed : (ℕ → Option HeldCell) → ℕ → ℕ → ℕ → Option HeldCell
@@ -145,11 +149,11 @@ closed f p n = link_written (link_written f p CLASS_NEXT (Some n)) n CLASS_PREV 
 
 -- p is the last one of the class of l
 abbrev pub shortened : (ℕ → Option HeldCell) → ℕ → ℕ → ℕ → Option HeldCell
-shortened f l p = link_written (link_written f p CLASS_NEXT None) l CLASS_LAST (Some p)
+shortened f l p = link_written (link_written f p CLASS_NEXT None) l CLASS_PREV (Some p)
 
 -- n leads in the place of c, which stood before it
 abbrev pub passed : (ℕ → Option HeldCell) → ℕ → ℕ → ℕ → ℕ → ℕ → Option HeldCell
-passed f h k c n = taken_over (link_written (link_written f n CLASS_PREV None) n CLASS_LAST (link_in f c CLASS_LAST)) h k c n
+passed f h k c n = taken_over (link_written f n CLASS_PREV (link_in f c CLASS_PREV)) h k c n
 
 -- the class of c is gone, and a leader that hung at link j of a, if there is one, hangs in its place
 abbrev pub dropped : (ℕ → Option HeldCell) → ℕ → ℕ → ℕ → ℕ → ℕ → Option ℕ → ℕ → Option HeldCell
@@ -173,6 +177,7 @@ pub record MayFile (f : ℕ → Option HeldCell) (m c : ℕ) (xs : List ℕ) (t 
   pub once : Distinct xs
   pub alive : (z : ℕ) → In z xs → IsSome (f z)
   pub there_m : IsSome (f m)
+  pub membrane : length (numbers_of (f m)) ≡ 8
   pub there_c : IsSome (f c)
   pub no_m : In m xs → ⊥
   pub not_m : c ≢ m
@@ -184,7 +189,6 @@ pub record Touches (f g : ℕ → Option HeldCell) (m : ℕ) (xs : List ℕ) (p 
   pub links : (b j : ℕ) → j < 3 → link_in g b j ≡ link_in f b j
   pub away : (b j : ℕ) → (In b xs → ⊥) → (b ≡ m → j ≢ LEADERS) → link_in g b j ≡ link_in f b j
   pub nodes : (z : ℕ) → is_key (key_in f z) p ≡ false → class_node g z ≡ class_node f z
-  pub lasts : (z : ℕ) → is_key (key_in f z) p ≡ false → link_in g z CLASS_LAST ≡ link_in f z CLASS_LAST
 
 -- of one class the list is zs then, and of all others it is as it was
 pub record ClassBecomes (f : ℕ → Option HeldCell) (p : ℕ × ℕ) (xs zs xs' : List ℕ) : Type 0 where
@@ -196,6 +200,10 @@ pub record Refiled (f g : ℕ → Option HeldCell) (m : ℕ) (xs : List ℕ) (p 
   pub touches : Touches f g m xs p
   pub tree : ClassTree
   pub classed : AreClassed g m xs' tree
+
+-- c is the first one of its class: what stands before it is the last one
+abbrev pub LeadsClass : (ℕ → Option HeldCell) → ℕ → Type 0
+LeadsClass f c = (q : ℕ) × (link_in f c CLASS_PREV ≡ Some q) × (link_in f q CLASS_NEXT ≡ None)
 
 -- c is filed in m as one of its class
 abbrev pub IsInItsClass : (ℕ → Option HeldCell) → ℕ → ℕ → Type 0

@@ -1,28 +1,28 @@
 //! The atoms of a membrane that files them by class: the high half of a label, and how many ports.
-ghost use Rattle.std.specs.Prelude.{◌≡◌, ◌<◌, ◌∷◌, ℕ, List, None, Some, IfSome, IsSome, is_some, if◌then◌else◌, true};
+ghost use Rattle.std.specs.Prelude.{◌≡◌, ◌⊎◌, ◌<◌, ◌∷◌, ℕ, List, None, Some, IfSome, IsSome, is_some, if◌then◌else◌, length, true};
 ghost use Rattle.std.specs.Option.{option_map};
 ghost use Rattle.lmn_base.specs.Lists.{In};
-ghost use Rattle.lmn_web_cells.specs.Cells.{cells_by};
+ghost use Rattle.lmn_web_cells.specs.Cells.{cells_by, numbers_of, IsLinkWord, link_of};
 ghost use Rattle.lmn_web_cells.specs.CellIds.{cell_id};
 ghost use Rattle.lmn_store_heap.specs.Lists.{after, from};
+ghost use Rattle.lmn_web_cells.specs.Links.{LEADERS};
 ghost use Rattle.lmn_web_cells.specs.Runs.{Line, link_in};
 ghost use Rattle.lmn_web.specs.declared.kind.CellKind.TheVariants.{Atom};
 ghost use Rattle.lmn_web.specs.Webs.{list_in};
-ghost use Rattle.lmn_web.specs.Classes.{ClassTree, AreClassed, IsTree, IsSorted, FiledAs, MayEnter, MayFile, MayLeave, begun, closed, dropped, files, is_key, is_odd, key_in, lengthened, lowest_below, passed, place_in, put_between, put_first, of_class, shortened, taken_over, top, IsInItsClass, IsFiledLast, IsFiledBefore, IsUnfiled};
+ghost use Rattle.lmn_web.specs.Classes.{ClassTree, AreClassed, IsTree, IsSorted, FiledAs, MayEnter, MayFile, MayLeave, begun, closed, dropped, files, is_key, is_odd, key_in, LeadsClass, lengthened, lowest_below, passed, place_in, put_between, put_first, of_class, shortened, taken_over, top, IsInItsClass, IsFiledLast, IsFiledBefore, IsUnfiled};
 
 use crate::kind::{CellKind, FILED};
 use lmn_web_cells::cell::Cells;
 use lmn_web_cells::handle::Cell;
-use lmn_web_cells::links::{
-    ATOMS, CLASS_LAST, CLASS_NEXT, CLASS_PREV, EVEN, LEADERS, NEXT, ODD, PREV,
-};
+use lmn_web_cells::links::{ATOMS, CLASS_NEXT, CLASS_PREV, EVEN, LEADERS_WORD, NEXT, ODD, PREV};
 use lmn_web_cells::numbers::{ARITY, HIGH, KIND};
 
 // A place in the tree of the first atoms of the classes: what hangs at a link of the membrane, or of the first atom above.
 #[derive(Clone, Copy)]
 struct Place {
     holder: Cell,
-    link: usize,
+    // The word of the link.
+    word: usize,
     // None where nothing hangs.
     leader: Option<Cell>,
 }
@@ -56,30 +56,32 @@ fn side(rest: u64) -> usize
 // Where a membrane has the first atom of a class, or would have it.
 fn find(cells: &Cells, m: Cell, high: u64, arity: u64) -> Place
     requires there { IsSome (cells_by cells.now (cell_id m)) }
+    requires membrane { length (numbers_of (cells_by cells.now (cell_id m))) ≡ 8 }
     requires tree { (t : ClassTree) × IsTree (cells_by cells.now) (link_in (cells_by cells.now) (cell_id m) LEADERS) t × IsSorted (cells_by cells.now) 0 t }
-    ensures { (t : ClassTree) → IsTree (cells_by cells.now) (link_in (cells_by cells.now) (cell_id m) LEADERS) t →
-        let w = place_in (cells_by cells.now) (high, arity) (cell_id m) t in (cell_id result.holder ≡ w.holder) × (result.link ≡ w.link) × (option_map cell_id result.leader ≡ top w.tree) }
+    ensures word { (result.word < 7) ⊎ (result.word ≡ LEADERS_WORD) }
+    ensures place { (t : ClassTree) → IsTree (cells_by cells.now) (link_in (cells_by cells.now) (cell_id m) LEADERS) t →
+        let w = place_in (cells_by cells.now) (high, arity) (cell_id m) t in (cell_id result.holder ≡ w.holder) × (link_of result.word ≡ w.link) × (option_map cell_id result.leader ≡ top w.tree) }
 {
     let mut holder = m;
-    let mut link = LEADERS;
+    let mut word = LEADERS_WORD;
     let mut rest = high;
-    let mut at = cells.link(m, LEADERS);
+    let mut at = cells.last_link(m);
     while let Some(c) = at {
         if has_class(cells, c, high, arity) {
             return Place {
                 holder,
-                link,
+                word,
                 leader: Some(c),
             };
         }
         holder = c;
-        link = side(rest);
+        word = side(rest);
         rest /= 2;
-        at = cells.link(c, link);
+        at = cells.link(c, word);
     }
     Place {
         holder,
-        link,
+        word,
         leader: None,
     }
 }
@@ -87,11 +89,12 @@ fn find(cells: &Cells, m: Cell, high: u64, arity: u64) -> Place
 // The first atom of a class of a membrane that files, without the place at which it hangs.
 fn leader_of(cells: &Cells, m: Cell, high: u64, arity: u64) -> Option<Cell>
     requires there { IsSome (cells_by cells.now (cell_id m)) }
+    requires membrane { length (numbers_of (cells_by cells.now (cell_id m))) ≡ 8 }
     requires tree { (t : ClassTree) × IsTree (cells_by cells.now) (link_in (cells_by cells.now) (cell_id m) LEADERS) t × IsSorted (cells_by cells.now) 0 t }
     ensures { (t : ClassTree) → IsTree (cells_by cells.now) (link_in (cells_by cells.now) (cell_id m) LEADERS) t → option_map cell_id result ≡ top (place_in (cells_by cells.now) (high, arity) (cell_id m) t).tree }
 {
     let mut rest = high;
-    let mut at = cells.link(m, LEADERS);
+    let mut at = cells.last_link(m);
     while let Some(c) = at {
         if has_class(cells, c, high, arity) {
             return Some(c);
@@ -107,20 +110,20 @@ fn leader_of(cells: &Cells, m: Cell, high: u64, arity: u64) -> Option<Cell>
 fn below(cells: &Cells, c: Cell) -> Place
     requires there { IsSome (cells_by cells.now (cell_id c)) }
     ensures holder { result.holder ≡ c }
-    ensures link { result.link ≡ (if is_some (link_in (cells_by cells.now) (cell_id c) EVEN) then EVEN else ODD) }
-    ensures leader { option_map cell_id result.leader ≡ link_in (cells_by cells.now) (cell_id c) result.link }
+    ensures word { result.word ≡ (if is_some (link_in (cells_by cells.now) (cell_id c) EVEN) then EVEN else ODD) }
+    ensures leader { option_map cell_id result.leader ≡ link_in (cells_by cells.now) (cell_id c) result.word }
 {
     let even = cells.link(c, EVEN);
     if even.is_some() {
         Place {
             holder: c,
-            link: EVEN,
+            word: EVEN,
             leader: even,
         }
     } else {
         Place {
             holder: c,
-            link: ODD,
+            word: ODD,
             leader: cells.link(c, ODD),
         }
     }
@@ -132,7 +135,7 @@ fn lowest(cells: &Cells, c: Cell) -> Place
     requires tree { (a b : ClassTree) × IsTree (cells_by cells.now) (link_in (cells_by cells.now) (cell_id c) EVEN) a × IsTree (cells_by cells.now) (link_in (cells_by cells.now) (cell_id c) ODD) b
         × (d : ℕ) × IsSorted (cells_by cells.now) d a × IsSorted (cells_by cells.now) d b }
     ensures { (a b : ClassTree) → IsTree (cells_by cells.now) (link_in (cells_by cells.now) (cell_id c) EVEN) a → IsTree (cells_by cells.now) (link_in (cells_by cells.now) (cell_id c) ODD) b →
-        let w = lowest_below (cell_id c) a b in (cell_id result.holder ≡ w.holder) × (result.link ≡ w.link) × (option_map cell_id result.leader ≡ w.leader) }
+        let w = lowest_below (cell_id c) a b in (cell_id result.holder ≡ w.holder) × (result.word ≡ w.link) × (option_map cell_id result.leader ≡ w.leader) }
 {
     let mut place = below(cells, c);
     let mut next = place;
@@ -163,6 +166,7 @@ fn seek(cells: &Cells, m: Cell, start: Option<Cell>, high: u64, arity: u64) -> O
 /// The first atom of a class in a membrane.
 pub fn first_in(cells: &Cells, m: Cell, high: u64, arity: u64) -> Option<Cell>
     requires there { IsSome (cells_by cells.now (cell_id m)) }
+    requires membrane { files (cells_by cells.now) (cell_id m) Atom ≡ true → length (numbers_of (cells_by cells.now (cell_id m))) ≡ 8 }
     requires line { Line (cells_by cells.now) (cell_id m) ATOMS (list_in (cells_by cells.now) (cell_id m) Atom) }
     requires classes { files (cells_by cells.now) (cell_id m) Atom ≡ true → (t : ClassTree) × AreClassed (cells_by cells.now) (cell_id m) (list_in (cells_by cells.now) (cell_id m) Atom) t }
     ensures { let f = cells_by cells.now in let own = of_class f (high, arity) (list_in f (cell_id m) Atom) in from (option_map cell_id result) own ≡ own }
@@ -177,6 +181,7 @@ pub fn first_in(cells: &Cells, m: Cell, high: u64, arity: u64) -> Option<Cell>
 /// The next atom of the class of one in a membrane.
 pub fn next_in(cells: &Cells, m: Cell, c: Cell) -> Option<Cell>
     requires there { IsSome (cells_by cells.now (cell_id m)) }
+    requires membrane { files (cells_by cells.now) (cell_id m) Atom ≡ true → length (numbers_of (cells_by cells.now (cell_id m))) ≡ 8 }
     requires line { Line (cells_by cells.now) (cell_id m) ATOMS (list_in (cells_by cells.now) (cell_id m) Atom) }
     requires inside { In (cell_id c) (list_in (cells_by cells.now) (cell_id m) Atom) }
     requires classes { files (cells_by cells.now) (cell_id m) Atom ≡ true → (t : ClassTree) × AreClassed (cells_by cells.now) (cell_id m) (list_in (cells_by cells.now) (cell_id m) Atom) t }
@@ -199,6 +204,7 @@ pub fn next_in(cells: &Cells, m: Cell, c: Cell) -> Option<Cell>
 /// list. None where nothing is to be filed.
 pub fn place_from(cells: &Cells, m: Cell, filed: bool, start: Cell, c: Cell) -> Option<Cell>
     requires home { IsSome (cells_by cells.now (cell_id m)) }
+    requires membrane { files (cells_by cells.now) (cell_id m) Atom ≡ true → length (numbers_of (cells_by cells.now (cell_id m))) ≡ 8 }
     requires there { IsSome (cells_by cells.now (cell_id c)) }
     requires line { filed ≡ true → Line (cells_by cells.now) (cell_id m) ATOMS (list_in (cells_by cells.now) (cell_id m) Atom) }
     requires start { filed ≡ true → In (cell_id start) (list_in (cells_by cells.now) (cell_id m) Atom) }
@@ -219,33 +225,32 @@ pub fn place_from(cells: &Cells, m: Cell, filed: bool, start: Cell, c: Cell) -> 
 }
 
 // An atom hangs at a link, with what hung below another.
-fn take_over(cells: &mut Cells, holder: Cell, link: usize, from: Cell, to: Cell)
+fn take_over(cells: &mut Cells, holder: Cell, word: usize, from: Cell, to: Cell)
     requires holder { IsSome (cells_by cells.old (cell_id holder)) }
-    requires link { link < 8 }
+    requires word { IsLinkWord (cells_by cells.old (cell_id holder)) word }
     requires from { IsSome (cells_by cells.old (cell_id from)) }
     requires to { IsSome (cells_by cells.old (cell_id to)) }
-    ensures { cells_by cells.new ≡ taken_over (cells_by cells.old) (cell_id holder) link (cell_id from) (cell_id to) }
+    ensures { cells_by cells.new ≡ taken_over (cells_by cells.old) (cell_id holder) (link_of word) (cell_id from) (cell_id to) }
 {
     let even = cells.link(from, EVEN);
     let odd = cells.link(from, ODD);
     cells.set_link(to, EVEN, even);
     cells.set_link(to, ODD, odd);
-    cells.set_link(holder, link, Some(to));
+    cells.set_link_in(holder, word, Some(to));
 }
 
 // An atom begins a class.
-fn begin(cells: &mut Cells, holder: Cell, link: usize, c: Cell)
+fn begin(cells: &mut Cells, holder: Cell, word: usize, c: Cell)
     requires holder { IsSome (cells_by cells.old (cell_id holder)) }
-    requires link { link < 8 }
+    requires word { IsLinkWord (cells_by cells.old (cell_id holder)) word }
     requires c { IsSome (cells_by cells.old (cell_id c)) }
-    ensures { cells_by cells.new ≡ begun (cells_by cells.old) (cell_id holder) link (cell_id c) }
+    ensures { cells_by cells.new ≡ begun (cells_by cells.old) (cell_id holder) (link_of word) (cell_id c) }
 {
     cells.set_link(c, CLASS_NEXT, None);
-    cells.set_link(c, CLASS_PREV, None);
-    cells.set_link(c, CLASS_LAST, Some(c));
+    cells.set_link(c, CLASS_PREV, Some(c));
     cells.set_link(c, EVEN, None);
     cells.set_link(c, ODD, None);
-    cells.set_link(holder, link, Some(c));
+    cells.set_link_in(holder, word, Some(c));
 }
 
 // An atom goes behind the last one of a class.
@@ -258,7 +263,7 @@ fn lengthen(cells: &mut Cells, leader: Cell, last: Cell, c: Cell)
     cells.set_link(c, CLASS_NEXT, None);
     cells.set_link(c, CLASS_PREV, Some(last));
     cells.set_link(last, CLASS_NEXT, Some(c));
-    cells.set_link(leader, CLASS_LAST, Some(c));
+    cells.set_link(leader, CLASS_PREV, Some(c));
 }
 
 // An atom goes between two of its class.
@@ -275,19 +280,18 @@ fn put_inside(cells: &mut Cells, prev: Cell, next: Cell, c: Cell)
 }
 
 // An atom goes before the first one of its class.
-fn put_leader(cells: &mut Cells, holder: Cell, link: usize, leader: Cell, c: Cell)
+fn put_leader(cells: &mut Cells, holder: Cell, word: usize, leader: Cell, c: Cell)
     requires holder { IsSome (cells_by cells.old (cell_id holder)) }
-    requires link { link < 8 }
+    requires word { IsLinkWord (cells_by cells.old (cell_id holder)) word }
     requires leader { IsSome (cells_by cells.old (cell_id leader)) }
     requires c { IsSome (cells_by cells.old (cell_id c)) }
-    ensures { cells_by cells.new ≡ put_first (cells_by cells.old) (cell_id holder) link (cell_id leader) (cell_id c) }
+    ensures { cells_by cells.new ≡ put_first (cells_by cells.old) (cell_id holder) (link_of word) (cell_id leader) (cell_id c) }
 {
-    let last = cells.link(leader, CLASS_LAST);
+    let last = cells.link(leader, CLASS_PREV);
     cells.set_link(c, CLASS_NEXT, Some(leader));
-    cells.set_link(c, CLASS_PREV, None);
+    cells.set_link(c, CLASS_PREV, last);
     cells.set_link(leader, CLASS_PREV, Some(c));
-    cells.set_link(c, CLASS_LAST, last);
-    take_over(cells, holder, link, leader, c);
+    take_over(cells, holder, word, leader, c);
 }
 
 // What stood between two atoms of a class leaves.
@@ -307,36 +311,35 @@ fn shorten(cells: &mut Cells, leader: Cell, prev: Cell)
     ensures { cells_by cells.new ≡ shortened (cells_by cells.old) (cell_id leader) (cell_id prev) }
 {
     cells.set_link(prev, CLASS_NEXT, None);
-    cells.set_link(leader, CLASS_LAST, Some(prev));
+    cells.set_link(leader, CLASS_PREV, Some(prev));
 }
 
 // The first one of a class leaves, and the next one leads.
-fn pass(cells: &mut Cells, holder: Cell, link: usize, c: Cell, next: Cell)
+fn pass(cells: &mut Cells, holder: Cell, word: usize, c: Cell, next: Cell)
     requires holder { IsSome (cells_by cells.old (cell_id holder)) }
-    requires link { link < 8 }
+    requires word { IsLinkWord (cells_by cells.old (cell_id holder)) word }
     requires c { IsSome (cells_by cells.old (cell_id c)) }
     requires next { IsSome (cells_by cells.old (cell_id next)) }
-    ensures { cells_by cells.new ≡ passed (cells_by cells.old) (cell_id holder) link (cell_id c) (cell_id next) }
+    ensures { cells_by cells.new ≡ passed (cells_by cells.old) (cell_id holder) (link_of word) (cell_id c) (cell_id next) }
 {
-    let last = cells.link(c, CLASS_LAST);
-    cells.set_link(next, CLASS_PREV, None);
-    cells.set_link(next, CLASS_LAST, last);
-    take_over(cells, holder, link, c, next);
+    let last = cells.link(c, CLASS_PREV);
+    cells.set_link(next, CLASS_PREV, last);
+    take_over(cells, holder, word, c, next);
 }
 
 // The only one of a class leaves. One with none below it, if there is one below the class, takes its place.
-fn drop_class(cells: &mut Cells, holder: Cell, link: usize, c: Cell, leaf: Place)
+fn drop_class(cells: &mut Cells, holder: Cell, word: usize, c: Cell, leaf: Place)
     requires holder { IsSome (cells_by cells.old (cell_id holder)) }
-    requires link { link < 8 }
+    requires word { IsLinkWord (cells_by cells.old (cell_id holder)) word }
     requires c { IsSome (cells_by cells.old (cell_id c)) }
-    requires leaf { IfSome leaf.leader (λ l. IsSome (cells_by cells.old (cell_id l)) × IsSome (cells_by cells.old (cell_id leaf.holder)) × (leaf.link < 8)) }
-    ensures { cells_by cells.new ≡ dropped (cells_by cells.old) (cell_id holder) link (cell_id c) (cell_id leaf.holder) leaf.link (option_map cell_id leaf.leader) }
+    requires leaf { IfSome leaf.leader (λ l. IsSome (cells_by cells.old (cell_id l)) × IsSome (cells_by cells.old (cell_id leaf.holder)) × (leaf.word < 7)) }
+    ensures { cells_by cells.new ≡ dropped (cells_by cells.old) (cell_id holder) (link_of word) (cell_id c) (cell_id leaf.holder) leaf.word (option_map cell_id leaf.leader) }
 {
     match leaf.leader {
-        None => cells.set_link(holder, link, None),
+        None => cells.set_link_in(holder, word, None),
         Some(l) => {
-            cells.set_link(leaf.holder, leaf.link, None);
-            take_over(cells, holder, link, c, l);
+            cells.set_link(leaf.holder, leaf.word, None);
+            take_over(cells, holder, word, c, l);
         }
     }
 }
@@ -351,9 +354,9 @@ pub fn file_last(cells: &mut Cells, m: Cell, c: Cell)
     let arity = cells.number(c, ARITY);
     let found = find(cells, m, high, arity);
     match found.leader {
-        None => begin(cells, found.holder, found.link, c),
+        None => begin(cells, found.holder, found.word, c),
         Some(leader) => {
-            if let Some(last) = cells.link(leader, CLASS_LAST) {
+            if let Some(last) = cells.link(leader, CLASS_PREV) {
                 lengthen(cells, leader, last, c);
             }
         }
@@ -366,13 +369,14 @@ pub fn file_before(cells: &mut Cells, m: Cell, d: Cell, c: Cell)
     ensures { IsFiledBefore (cells_by cells.old) (cells_by cells.new) (cell_id m) (cell_id d) (cell_id c) }
 {
     cells.whole();
-    match cells.link(d, CLASS_PREV) {
-        Some(prev) => put_inside(cells, prev, d, c),
-        None => {
+    if let Some(prev) = cells.link(d, CLASS_PREV) {
+        if cells.link(prev, CLASS_NEXT).is_some() {
+            put_inside(cells, prev, d, c);
+        } else {
             let high = cells.number(c, HIGH);
             let arity = cells.number(c, ARITY);
             let found = find(cells, m, high, arity);
-            put_leader(cells, found.holder, found.link, d, c);
+            put_leader(cells, found.holder, found.word, d, c);
         }
     }
 }
@@ -381,6 +385,7 @@ pub fn file_before(cells: &mut Cells, m: Cell, d: Cell, c: Cell)
 fn unfile_last(cells: &mut Cells, m: Cell, c: Cell, prev: Cell)
     requires classes { IsInItsClass (cells_by cells.old) (cell_id m) (cell_id c) }
     requires prev { link_in (cells_by cells.old) (cell_id c) CLASS_PREV ≡ Some (cell_id prev) }
+    requires behind { IsSome (link_in (cells_by cells.old) (cell_id prev) CLASS_NEXT) }
     requires next { link_in (cells_by cells.old) (cell_id c) CLASS_NEXT ≡ None }
     ensures { IsUnfiled (cells_by cells.old) (cells_by cells.new) (cell_id m) (cell_id c) }
 {
@@ -396,7 +401,7 @@ fn unfile_last(cells: &mut Cells, m: Cell, c: Cell, prev: Cell)
 // The first one of a class leaves it.
 fn unfile_first(cells: &mut Cells, m: Cell, c: Cell, next: Option<Cell>)
     requires classes { IsInItsClass (cells_by cells.old) (cell_id m) (cell_id c) }
-    requires prev { link_in (cells_by cells.old) (cell_id c) CLASS_PREV ≡ None }
+    requires first { LeadsClass (cells_by cells.old) (cell_id c) }
     requires next { link_in (cells_by cells.old) (cell_id c) CLASS_NEXT ≡ option_map cell_id next }
     ensures { IsUnfiled (cells_by cells.old) (cells_by cells.new) (cell_id m) (cell_id c) }
 {
@@ -405,10 +410,10 @@ fn unfile_first(cells: &mut Cells, m: Cell, c: Cell, next: Option<Cell>)
     let arity = cells.number(c, ARITY);
     let found = find(cells, m, high, arity);
     match next {
-        Some(n) => pass(cells, found.holder, found.link, c, n),
+        Some(n) => pass(cells, found.holder, found.word, c, n),
         None => {
             let leaf = lowest(cells, c);
-            drop_class(cells, found.holder, found.link, c, leaf);
+            drop_class(cells, found.holder, found.word, c, leaf);
         }
     }
 }
@@ -420,14 +425,16 @@ pub fn unfile(cells: &mut Cells, m: Cell, c: Cell)
     ensures { IsUnfiled (cells_by cells.old) (cells_by cells.new) (cell_id m) (cell_id c) }
 {
     cells.whole();
-    let prev = cells.link(c, CLASS_PREV);
-    let next = cells.link(c, CLASS_NEXT);
-    match prev {
-        None => unfile_first(cells, m, c, next),
-        Some(p) => match next {
-            None => unfile_last(cells, m, c, p),
-            Some(n) => close(cells, p, n),
-        },
+    if let Some(prev) = cells.link(c, CLASS_PREV) {
+        let next = cells.link(c, CLASS_NEXT);
+        if cells.link(prev, CLASS_NEXT).is_none() {
+            unfile_first(cells, m, c, next);
+        } else {
+            match next {
+                None => unfile_last(cells, m, c, prev),
+                Some(n) => close(cells, prev, n),
+            }
+        }
     }
 }
 

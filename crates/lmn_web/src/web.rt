@@ -17,7 +17,7 @@ use crate::classes::{enter_class, first_in, is_filed, leave_class, next_in, plac
 use crate::kind::{CellKind, UNFILED, count_place, first_link, kind_of, number_of};
 use lmn_web_cells::cell::Cells;
 use lmn_web_cells::handle::Cell;
-use lmn_web_cells::links::{HOME, LEADERS, NEXT};
+use lmn_web_cells::links::{HOME, LEADERS_WORD, NEXT};
 use lmn_web_cells::numbers::{ARITY, FIRST_MARK, HIGH, INDEX, KIND, LOW};
 use lmn_web_cells::{lists, ports};
 use std::alloc::{AllocError, Global};
@@ -477,6 +477,6 @@ fn forget_atoms(cells: &mut Cells, m: Cell)
     let first = first_link(CellKind::Atom);
     cells.set_link(m, first, None);
     cells.set_link(m, first + 1, None);
-    cells.set_link(m, LEADERS, None);
+    cells.set_link_in(m, LEADERS_WORD, None);
     cells.set_count(m, count_place(CellKind::Atom), 0);
 }

@@ -1,39 +1,41 @@
-use Rattle.std.proofs.Common.{◌≡◌, ◌<◌, ◌/◌, ℕ, Some, length, sym, ap, subst, ◌∙◌}
+use Rattle.std.proofs.Common.{◌≡◌, ◌<◌, ◌/◌, ℕ, Some, length, refl, sym, ap, subst, ◌∙◌, inl, inr}
 use Rattle.std.specs.Option.{option_map}
-use Rattle.lmn_web_cells.specs.Cells.{cells_by}
+use Rattle.lmn_web_cells.specs.Cells.{cells_by, link_of}
 use Rattle.lmn_web_cells.specs.CellIds.{cell_id}
 use Rattle.lmn_web_cells.specs.Runs.{link_in}
 use Rattle.lmn_web_cells.specs.Links.{LEADERS}
-use Rattle.lmn_web.proofs.ClassLemmas.{Left, bulk, tree_small, side_of, left_all, left_next, left_found, left_none, left_there}
+use Rattle.lmn_web_cells.proofs.MadeLemmas.{link_itself}
+use Rattle.lmn_web.proofs.ClassLemmas.{Left, bulk, tree_small, side_of, side_small, left_all, left_next, left_found, left_none, left_there}
 use Rattle.lmn_web.proofs.classes.find.Goals as goal
 
 pub loop-at-init : goal.loop-at-init
 loop-at-init c =
     let f = cells_by c.args.cells.now in let m = cell_id c.args.m in let n = length c.args.cells.now in let p : ℕ × ℕ = (c.args.high, c.args.arity) in let l = c.requires.tree in
-    subst (λ o. Left f p m n m LEADERS c.args.high o) c.link-at.ensures (left_all f p m n l.0 l.1 (tree_small c.args.cells.now (link_in f m LEADERS) 0 l.0 l.1 l.2))
+    (subst (λ o. Left f p m n m LEADERS c.args.high o) c.last_link-at.ensures (left_all f p m n l.0 l.1 (tree_small c.args.cells.now (link_in f m LEADERS) 0 l.0 l.1 l.2)), inr refl)
 
 pub has_class-requires : goal.has_class-requires
-has_class-requires c = left_there (cells_by c.args.cells.now) _ _ _ _ _ _ _ (rw c.in-Some.is at c.loop-at.invariant)
+has_class-requires c = left_there (cells_by c.args.cells.now) _ _ _ _ _ _ _ (rw c.in-Some.is at c.loop-at.invariant.0)
 
-pub link-at-requires-in-Some-clause-there : goal.link-at-requires-in-Some-clause-there
-link-at-requires-in-Some-clause-there c = left_there (cells_by c.args.cells.now) _ _ _ _ _ _ _ (rw c.in-Some.is at c.loop-at.invariant)
+pub link-at-requires-clause-there : goal.link-at-requires-clause-there
+link-at-requires-clause-there c = left_there (cells_by c.args.cells.now) _ _ _ _ _ _ _ (rw c.in-Some.is at c.loop-at.invariant.0)
 
-pub returns-then-has_class : goal.returns-then-has_class
-returns-then-has_class c = left_found (cells_by c.args.cells.now) _ _ _ _ _ _ _ (rw c.in-Some.is at c.loop-at.invariant) (sym c.has_class.ensures ∙ c.if-has_class.true)
+pub returns-then-has_class-clause-place : goal.returns-then-has_class-clause-place
+returns-then-has_class-clause-place c = left_found (cells_by c.args.cells.now) _ _ _ _ _ _ _ (rw c.in-Some.is at c.loop-at.invariant.0) (sym c.has_class.ensures ∙ c.if-has_class.true)
 
 pub loop-at-smaller : goal.loop-at-smaller
 loop-at-smaller c =
     let f = cells_by c.args.cells.now in let m = cell_id c.args.m in let n = length c.args.cells.now in let p : ℕ × ℕ = (c.args.high, c.args.arity) in let x = cell_id c.in-Some.c in
-    let next = left_next f p m n _ _ c.loop-at.rest x (rw c.in-Some.is at c.loop-at.invariant) (sym c.has_class.ensures ∙ c.if-has_class.false) in
-    let read : link_in f x (side_of c.loop-at.rest) ≡ option_map cell_id c.link-at-in-Some.result = ap (link_in f x) (sym c.side-link.ensures) ∙ c.link-at-in-Some.ensures in
-    subst (λ o. bulk f n (option_map cell_id c.link-at-in-Some.result) < bulk f n (option_map cell_id o)) (sym c.in-Some.is) (subst (λ o. bulk f n o < bulk f n (Some x)) read next.1)
+    let next = left_next f p m n _ _ c.loop-at.rest x (rw c.in-Some.is at c.loop-at.invariant.0) (sym c.has_class.ensures ∙ c.if-has_class.false) in
+    let read : link_in f x (side_of c.loop-at.rest) ≡ option_map cell_id c.link-at.result = ap (link_in f x) (sym c.side-word.ensures) ∙ c.link-at.ensures in
+    subst (λ o. bulk f n (option_map cell_id c.link-at.result) < bulk f n (option_map cell_id o)) (sym c.in-Some.is) (subst (λ o. bulk f n o < bulk f n (Some x)) read next.1)
 
 pub loop-at-preserved : goal.loop-at-preserved
 loop-at-preserved c =
     let f = cells_by c.args.cells.now in let m = cell_id c.args.m in let n = length c.args.cells.now in let p : ℕ × ℕ = (c.args.high, c.args.arity) in let x = cell_id c.in-Some.c in
-    let next = left_next f p m n _ _ c.loop-at.rest x (rw c.in-Some.is at c.loop-at.invariant) (sym c.has_class.ensures ∙ c.if-has_class.false) in
-    let read : link_in f x (side_of c.loop-at.rest) ≡ option_map cell_id c.link-at-in-Some.result = ap (link_in f x) (sym c.side-link.ensures) ∙ c.link-at-in-Some.ensures in
-    subst (λ k. Left f p m n x k (c.loop-at.rest / 2) (option_map cell_id c.link-at-in-Some.result)) (sym c.side-link.ensures) (subst (λ o. Left f p m n x (side_of c.loop-at.rest) (c.loop-at.rest / 2) o) read next.0)
+    let next = left_next f p m n _ _ c.loop-at.rest x (rw c.in-Some.is at c.loop-at.invariant.0) (sym c.has_class.ensures ∙ c.if-has_class.false) in
+    let read : link_in f x (side_of c.loop-at.rest) ≡ option_map cell_id c.link-at.result = ap (link_in f x) (sym c.side-word.ensures) ∙ c.link-at.ensures in
+    let small : c.side-word.result < 7 = side_small c.loop-at.rest c.side-word.result c.side-word.ensures in
+    (subst (λ k. Left f p m n x k (c.loop-at.rest / 2) (option_map cell_id c.link-at.result)) (sym (link_itself c.side-word.result small ∙ c.side-word.ensures)) (subst (λ o. Left f p m n x (side_of c.loop-at.rest) (c.loop-at.rest / 2) o) read next.0), inl small)
 
-pub returns : goal.returns
-returns c = left_none (cells_by c.args.cells.now) _ _ _ _ _ _ (rw c.in_default.is at c.loop-at.invariant)
+pub returns-clause-place : goal.returns-clause-place
+returns-clause-place c = left_none (cells_by c.args.cells.now) _ _ _ _ _ _ (rw c.in_default.is at c.loop-at.invariant.0)

@@ -2,7 +2,7 @@ use Rattle.std.proofs.Common.{◌∙◌, ap, ℕ, Option, Some}
 use Rattle.lmn_web_cells.specs.Cells.{HeldCell}
 use Rattle.lmn_web_cells.specs.CellIds.{cell_id}
 use Rattle.lmn_web.specs.Classes.{link_written}
-use Rattle.lmn_web_cells.specs.Links.{CLASS_LAST}
+use Rattle.lmn_web_cells.specs.Links.{CLASS_PREV}
 use Rattle.lmn_web.proofs.ClassWrites.{kept}
 use Rattle.lmn_web.proofs.classes.shorten.Goals as goal
 
@@ -12,4 +12,4 @@ set_link-requires-2-clause-there c =
 
 pub returns : goal.returns
 returns c =
-    c.set_link-2.ensures ∙ ap (λ (h : ℕ → Option HeldCell). link_written h (cell_id c.args.leader) CLASS_LAST (Some (cell_id c.args.prev))) (c.set_link.ensures)
+    c.set_link-2.ensures ∙ ap (λ (h : ℕ → Option HeldCell). link_written h (cell_id c.args.leader) CLASS_PREV (Some (cell_id c.args.prev))) (c.set_link.ensures)

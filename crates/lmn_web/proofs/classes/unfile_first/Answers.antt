@@ -1,11 +1,11 @@
 use Rattle.std.proofs.Common.{◌≡◌, ◌<◌, ℕ, Option, IsSome, sym, ap, subst, ◌∙◌}
 use Rattle.std.specs.Option.{option_map}
-use Rattle.lmn_web_cells.specs.Cells.{HeldCell, cells_by}
+use Rattle.lmn_web_cells.specs.Cells.{HeldCell, cells_by, IsLinkWord, link_of}
 use Rattle.lmn_web_cells.specs.CellIds.{cell_id}
 use Rattle.lmn_web.specs.Classes.{key_in, place_in, passed, dropped, Refiled}
 use Rattle.lmn_web.proofs.ListedLemmas.{if_some}
 use Rattle.lmn_web.proofs.ClassLemmas.{lowest_there}
-use Rattle.lmn_web.proofs.ClassSteps.{begins_tree, below_is, filed_passed, filed_dropped, next_alive, holder_alive, holder_link}
+use Rattle.lmn_web.proofs.ClassSteps.{begins_tree, below_is, filed_passed, filed_dropped, next_alive, holder_alive, holder_word}
 use Rattle.lmn_web.proofs.classes.unfile_first.Goals as goal
 
 pub number-high-requires-clause-there : goal.number-high-requires-clause-there
@@ -19,20 +19,20 @@ pass-requires-clause-holder c =
     let f = cells_by c.args.cells.now in let m = cell_id c.args.m in let x = cell_id c.args.c in let p = key_in f x in
     let kp : ◌≡◌ {A = ℕ × ℕ} (c.number-high.result, c.number-arity.result) p = λ i. (c.number-high.ensures i, c.number-arity.ensures i) in
     let r = c.requires.classes in let t = r.1 in let a = r.2 in
-    let found = c.find-found.ensures t a.classed.tree in
+    let found = c.find-found.ensures.place t a.classed.tree in
     let hold : cell_id c.find-found.result.holder ≡ (place_in f p m t).holder = found.0 ∙ ap (λ q. (place_in f q m t).holder) kp in
-    let link : c.find-found.result.link ≡ (place_in f p m t).link = found.1 ∙ ap (λ q. (place_in f q m t).link) kp in
+    let link : link_of c.find-found.result.word ≡ (place_in f p m t).link = found.1 ∙ ap (λ q. (place_in f q m t).link) kp in
     subst (λ z. IsSome (f z)) (sym hold) (holder_alive f m x r.0 t a p)
 
-pub pass-requires-clause-link : goal.pass-requires-clause-link
-pass-requires-clause-link c =
+pub pass-requires-clause-word : goal.pass-requires-clause-word
+pass-requires-clause-word c =
     let f = cells_by c.args.cells.now in let m = cell_id c.args.m in let x = cell_id c.args.c in let p = key_in f x in
     let kp : ◌≡◌ {A = ℕ × ℕ} (c.number-high.result, c.number-arity.result) p = λ i. (c.number-high.ensures i, c.number-arity.ensures i) in
     let r = c.requires.classes in let t = r.1 in let a = r.2 in
-    let found = c.find-found.ensures t a.classed.tree in
+    let found = c.find-found.ensures.place t a.classed.tree in
     let hold : cell_id c.find-found.result.holder ≡ (place_in f p m t).holder = found.0 ∙ ap (λ q. (place_in f q m t).holder) kp in
-    let link : c.find-found.result.link ≡ (place_in f p m t).link = found.1 ∙ ap (λ q. (place_in f q m t).link) kp in
-    subst (λ k. k < 8) (sym link) (holder_link f m x r.0 t a p)
+    let link : link_of c.find-found.result.word ≡ (place_in f p m t).link = found.1 ∙ ap (λ q. (place_in f q m t).link) kp in
+    subst (λ z. IsLinkWord (f z) c.find-found.result.word) (sym hold) (holder_word f m x r.0 t a p c.find-found.result.word c.find-found.ensures.word link)
 
 pub pass-requires-clause-c : goal.pass-requires-clause-c
 pass-requires-clause-c c =
@@ -51,7 +51,7 @@ pub lowest-leaf-requires-clause-tree : goal.lowest-leaf-requires-clause-tree
 lowest-leaf-requires-clause-tree c =
     let f = cells_by c.args.cells.now in let m = cell_id c.args.m in let x = cell_id c.args.c in let p = key_in f x in
     let r = c.requires.classes in let t = r.1 in let a = r.2 in
-    let w = begins_tree f m x r.0 t a r.3 c.requires.prev in let b = below_is f m x r.0 t a x w.0 w.1 w.2 in
+    let w = begins_tree f m x r.0 t a r.3 c.requires.first in let b = below_is f m x r.0 t a x w.0 w.1 w.2 in
     (w.0, w.1, b.0, b.1, b.2, b.3, b.4)
 
 pub drop_class-requires-clause-holder : goal.drop_class-requires-clause-holder
@@ -59,20 +59,20 @@ drop_class-requires-clause-holder c =
     let f = cells_by c.args.cells.now in let m = cell_id c.args.m in let x = cell_id c.args.c in let p = key_in f x in
     let kp : ◌≡◌ {A = ℕ × ℕ} (c.number-high.result, c.number-arity.result) p = λ i. (c.number-high.ensures i, c.number-arity.ensures i) in
     let r = c.requires.classes in let t = r.1 in let a = r.2 in
-    let found = c.find-found.ensures t a.classed.tree in
+    let found = c.find-found.ensures.place t a.classed.tree in
     let hold : cell_id c.find-found.result.holder ≡ (place_in f p m t).holder = found.0 ∙ ap (λ q. (place_in f q m t).holder) kp in
-    let link : c.find-found.result.link ≡ (place_in f p m t).link = found.1 ∙ ap (λ q. (place_in f q m t).link) kp in
+    let link : link_of c.find-found.result.word ≡ (place_in f p m t).link = found.1 ∙ ap (λ q. (place_in f q m t).link) kp in
     subst (λ z. IsSome (f z)) (sym hold) (holder_alive f m x r.0 t a p)
 
-pub drop_class-requires-clause-link : goal.drop_class-requires-clause-link
-drop_class-requires-clause-link c =
+pub drop_class-requires-clause-word : goal.drop_class-requires-clause-word
+drop_class-requires-clause-word c =
     let f = cells_by c.args.cells.now in let m = cell_id c.args.m in let x = cell_id c.args.c in let p = key_in f x in
     let kp : ◌≡◌ {A = ℕ × ℕ} (c.number-high.result, c.number-arity.result) p = λ i. (c.number-high.ensures i, c.number-arity.ensures i) in
     let r = c.requires.classes in let t = r.1 in let a = r.2 in
-    let found = c.find-found.ensures t a.classed.tree in
+    let found = c.find-found.ensures.place t a.classed.tree in
     let hold : cell_id c.find-found.result.holder ≡ (place_in f p m t).holder = found.0 ∙ ap (λ q. (place_in f q m t).holder) kp in
-    let link : c.find-found.result.link ≡ (place_in f p m t).link = found.1 ∙ ap (λ q. (place_in f q m t).link) kp in
-    subst (λ k. k < 8) (sym link) (holder_link f m x r.0 t a p)
+    let link : link_of c.find-found.result.word ≡ (place_in f p m t).link = found.1 ∙ ap (λ q. (place_in f q m t).link) kp in
+    subst (λ z. IsLinkWord (f z) c.find-found.result.word) (sym hold) (holder_word f m x r.0 t a p c.find-found.result.word c.find-found.ensures.word link)
 
 pub drop_class-requires-clause-c : goal.drop_class-requires-clause-c
 drop_class-requires-clause-c c =
@@ -82,28 +82,28 @@ pub drop_class-requires-clause-leaf : goal.drop_class-requires-clause-leaf
 drop_class-requires-clause-leaf c =
     let f = cells_by c.args.cells.now in let m = cell_id c.args.m in let x = cell_id c.args.c in let p = key_in f x in
     let r = c.requires.classes in let t = r.1 in let a = r.2 in
-    let w = begins_tree f m x r.0 t a r.3 c.requires.prev in let b = below_is f m x r.0 t a x w.0 w.1 w.2 in
+    let w = begins_tree f m x r.0 t a r.3 c.requires.first in let b = below_is f m x r.0 t a x w.0 w.1 w.2 in
     let low = c.lowest-leaf.ensures w.0 w.1 b.0 b.1 in
-    if_some cell_id c.lowest-leaf.result.leader (λ q. IsSome (f q) × IsSome (f (cell_id c.lowest-leaf.result.holder)) × (c.lowest-leaf.result.link < 8)) (λ q e.
+    if_some cell_id c.lowest-leaf.result.leader (λ q. IsSome (f q) × IsSome (f (cell_id c.lowest-leaf.result.holder)) × (c.lowest-leaf.result.word < 7)) (λ q e.
     let there = lowest_there f x w.0 w.1 b.0 b.1 a.there_c q (sym low.2 ∙ e) in
-    (there.0, subst (λ z. IsSome (f z)) (sym low.0) there.1, subst (λ k. k < 8) (sym low.1) there.2))
+    (there.0, subst (λ z. IsSome (f z)) (sym low.0) there.1, subst (λ k. k < 7) (sym low.1) there.2))
 
 pub returns-in-Some : goal.returns-in-Some
 returns-in-Some c xs t xs' a i one =
     let f = cells_by c.args.cells.now in let m = cell_id c.args.m in let x = cell_id c.args.c in let p = key_in f x in
     let kp : ◌≡◌ {A = ℕ × ℕ} (c.number-high.result, c.number-arity.result) p = λ i. (c.number-high.ensures i, c.number-arity.ensures i) in
-    let found = c.find-found.ensures t a.classed.tree in
+    let found = c.find-found.ensures.place t a.classed.tree in
     let hold : cell_id c.find-found.result.holder ≡ (place_in f p m t).holder = found.0 ∙ ap (λ q. (place_in f q m t).holder) kp in
-    let link : c.find-found.result.link ≡ (place_in f p m t).link = found.1 ∙ ap (λ q. (place_in f q m t).link) kp in
-    subst (λ (g : ℕ → Option HeldCell). Refiled f g m xs p xs') (sym (c.pass.ensures ∙ (λ y. passed f (hold y) (link y) x (cell_id c.in-Some.n)))) (filed_passed f c.whole.ensures m x xs t xs' a i one (cell_id c.in-Some.n) c.requires.prev (c.requires.next ∙ ap (option_map cell_id) c.in-Some.is))
+    let link : link_of c.find-found.result.word ≡ (place_in f p m t).link = found.1 ∙ ap (λ q. (place_in f q m t).link) kp in
+    subst (λ (g : ℕ → Option HeldCell). Refiled f g m xs p xs') (sym (c.pass.ensures ∙ (λ y. passed f (hold y) (link y) x (cell_id c.in-Some.n)))) (filed_passed f c.whole.ensures m x xs t xs' a i one (cell_id c.in-Some.n) c.requires.first (c.requires.next ∙ ap (option_map cell_id) c.in-Some.is))
 
 pub returns-in-None : goal.returns-in-None
 returns-in-None c xs t xs' a i one =
     let f = cells_by c.args.cells.now in let m = cell_id c.args.m in let x = cell_id c.args.c in let p = key_in f x in
     let kp : ◌≡◌ {A = ℕ × ℕ} (c.number-high.result, c.number-arity.result) p = λ i. (c.number-high.ensures i, c.number-arity.ensures i) in
-    let found = c.find-found.ensures t a.classed.tree in
+    let found = c.find-found.ensures.place t a.classed.tree in
     let hold : cell_id c.find-found.result.holder ≡ (place_in f p m t).holder = found.0 ∙ ap (λ q. (place_in f q m t).holder) kp in
-    let link : c.find-found.result.link ≡ (place_in f p m t).link = found.1 ∙ ap (λ q. (place_in f q m t).link) kp in
-    let w = begins_tree f m x xs t a i c.requires.prev in let b = below_is f m x xs t a x w.0 w.1 w.2 in
+    let link : link_of c.find-found.result.word ≡ (place_in f p m t).link = found.1 ∙ ap (λ q. (place_in f q m t).link) kp in
+    let w = begins_tree f m x xs t a i c.requires.first in let b = below_is f m x xs t a x w.0 w.1 w.2 in
     let low = c.lowest-leaf.ensures w.0 w.1 b.0 b.1 in
-    subst (λ (g : ℕ → Option HeldCell). Refiled f g m xs p xs') (sym (c.drop_class.ensures ∙ (λ y. dropped f (hold y) (link y) x (low.0 y) (low.1 y) (low.2 y)))) (filed_dropped f c.whole.ensures m x xs t xs' a i one c.requires.prev (c.requires.next ∙ ap (option_map cell_id) c.in-None.is) w.0 w.1 w.2)
+    subst (λ (g : ℕ → Option HeldCell). Refiled f g m xs p xs') (sym (c.drop_class.ensures ∙ (λ y. dropped f (hold y) (link y) x (low.0 y) (low.1 y) (low.2 y)))) (filed_dropped f c.whole.ensures m x xs t xs' a i one c.requires.first (c.requires.next ∙ ap (option_map cell_id) c.in-None.is) w.0 w.1 w.2)

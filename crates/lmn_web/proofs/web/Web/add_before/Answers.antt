@@ -14,7 +14,7 @@ use Rattle.lmn_web.proofs.ListedLemmas.{own_line, home_same, link_behind, link_b
 use Rattle.lmn_web.proofs.RelistLemmas.{enters_before, before_among, inserted_there, inserted_eight, inserted_fits, inserts, relists_is, in_none, before_is}
 use Rattle.lmn_web.proofs.WebLemmas.{some_back}
 use Rattle.lmn_web.specs.Classes.{files, key_in, MayEnter}
-use Rattle.lmn_web.proofs.Filing.{Leaves, filed_atom, inserts_left, tree, may_before, entered_web, entered_list}
+use Rattle.lmn_web.proofs.Filing.{Leaves, filed_atom, filed_membrane, inserts_left, tree, may_before, entered_web, entered_list}
 use Rattle.lmn_web.proofs.web.Web.add_before.Goals as goal
 
 pub insert-requires-clause-home : goal.insert-requires-clause-home
@@ -177,3 +177,9 @@ returns-in-Some c n at =
     let same : n ≡ m = let e : Some n ≡ Some m = sym at ∙ ap (λ (z : List Row). home_at (web_by z) a) (sym c.self.view_is) ∙ home_same f (list_in f) a ∙ home in cc in
     relists_is f (cells_by c.enter_class.new.cells) _ w m x (Some m) xs (entered_list f F _ W m x (Some m) xs r leaves (cells_by c.enter_class.new.cells) c.is_filed-filed.result (key_in F x) filed enters.free (c.enter_class.ensures own first xs may))
     ∙ before_is f (list_in f) w.listed m a x ∙ (λ t. added_before (web_by (c.self.view_is t)) (sym same t) a x)
+
+pub place_from-place-requires-clause-membrane : goal.place_from-place-requires-clause-membrane
+place_from-place-requires-clause-membrane c sure =
+    let f = cells_by c.self.inside.cells in let m = cell_id c.in-Some.home in let a = cell_id c.args.after in let w = c.self.invariant.web in
+    let home : link_in f a HOME ≡ Some m = c.link.ensures ∙ ap (option_map cell_id) c.in-Some.is in
+    filed_membrane f _ m w (w.listed.homes m a home).0 sure

@@ -12,6 +12,7 @@ use Rattle.lmn_web.specs.Classes.{of_class}
 use Rattle.lmn_web.proofs.ListedLemmas.{no_atom_by, from_in, if_some}
 use Rattle.lmn_web.proofs.ClassReads.{class_list}
 use Rattle.lmn_web.proofs.RelistLemmas.{membrane_there}
+use Rattle.lmn_web.proofs.Filing.{filed_membrane}
 use Rattle.lmn_web.proofs.web.Web.first_of_class.Goals as goal
 use Rattle.lmn_store_heap.proofs.Filters.{in_filter}
 
@@ -49,3 +50,8 @@ pub first_in-requires-clause-there : goal.first_in-requires-clause-there
 first_in-requires-clause-there c =
     let f = cells_by c.self.inside.cells in let m = cell_id c.args.home in
     membrane_there f m (no_atom_by f (list_in f) m (subst (λ (z : List Row). kind_at (web_by z) m ≡ Membrane) (sym c.self.view_is) c.requires))
+
+pub first_in-requires-clause-membrane : goal.first_in-requires-clause-membrane
+first_in-requires-clause-membrane c sure =
+    let f = cells_by c.self.inside.cells in let m = cell_id c.args.home in
+    filed_membrane f _ m c.self.invariant.web (membrane_there f m (no_atom_by f (list_in f) m (subst (λ (z : List Row). kind_at (web_by z) m ≡ Membrane) (sym c.self.view_is) c.requires))) sure

@@ -11,7 +11,7 @@ use Rattle.lmn_web.specs.declared.kind.CellKind.TheVariants.{Atom, Membrane}
 use Rattle.lmn_web.proofs.web.Web.last.Goals as goal
 
 pub link-requires-clause-below : goal.link-requires-clause-below
-link-requires-clause-below c = subst (λ e. e + 1 < 8) (sym c.first_link.ensures) (link_below c.args.kind)
+link-requires-clause-below c = subst (λ e. e + 1 < 7) (sym c.first_link.ensures) (link_below c.args.kind)
 
 pub returns-in-Membrane : goal.returns-in-Membrane
 returns-in-Membrane c =

@@ -14,6 +14,7 @@ use Rattle.lmn_web.specs.Indexes.{cell_kind}
 use Rattle.lmn_web.specs.Classes.{is_key, key_in, of_class}
 use Rattle.lmn_web.proofs.ListedLemmas.{home_same, kind_same, list_same, own_line, if_some}
 use Rattle.lmn_web.proofs.ClassReads.{class_list, key_by_label}
+use Rattle.lmn_web.proofs.Filing.{filed_membrane}
 use Rattle.lmn_web.proofs.web.Web.next_of_class.Goals as goal
 use Rattle.lmn_store_heap.proofs.Filters.{in_filter}
 
@@ -22,6 +23,12 @@ next_in-requires-clause-there c =
     let f = cells_by c.self.inside.cells in let x = cell_id c.args.c in let W = c.self.invariant in let n = cell_id c.in-Some.home in
     let home : link_in f x HOME ≡ Some n = sym (home_same f (list_in f) x) ∙ ap (λ (z : List Row). home_at (web_by z) x) c.self.view_is ∙ c.home.ensures ∙ ap (option_map cell_id) c.in-Some.is in
     (W.web.listed.homes n x home).0
+
+pub next_in-requires-clause-membrane : goal.next_in-requires-clause-membrane
+next_in-requires-clause-membrane c sure =
+    let f = cells_by c.self.inside.cells in let x = cell_id c.args.c in let W = c.self.invariant in let n = cell_id c.in-Some.home in
+    let home : link_in f x HOME ≡ Some n = sym (home_same f (list_in f) x) ∙ ap (λ (z : List Row). home_at (web_by z) x) c.self.view_is ∙ c.home.ensures ∙ ap (option_map cell_id) c.in-Some.is in
+    filed_membrane f _ n W.web (W.web.listed.homes n x home).0 sure
 
 pub next_in-requires-clause-line : goal.next_in-requires-clause-line
 next_in-requires-clause-line c =
