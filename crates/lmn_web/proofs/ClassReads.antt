@@ -6,7 +6,7 @@ use Rattle.lmn_base.specs.Lists.{In}
 use Rattle.lmn_store_heap.specs.Lists.{Distinct, from, after}
 use Rattle.lmn_web_cells.specs.Cells.{HeldCell, numbers_of, ports_of}
 use Rattle.lmn_web_cells.specs.Ports.{partner_by}
-use Rattle.lmn_web_cells.specs.Runs.{RunsThrough, link_in}
+use Rattle.lmn_web_cells.specs.Runs.{link_in}
 use Rattle.lmn_web.specs.declared.kind.CellKind.TheVariants.{Atom}
 use Rattle.lmn_web.specs.Webs.{web_cell, web_of, list_in, cells_in, label_by, web_label, label_class, is_classed, with_class, partners_of}
 use Rattle.lmn_web_cells.specs.Numbers.{ARITY, HIGH, LOW}

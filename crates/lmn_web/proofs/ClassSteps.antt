@@ -1,9 +1,9 @@
 -- The calls that file an atom by its class.
-use Rattle.std.proofs.Common.{◌≡◌, ◌≢◌, ◌⊎◌, ◌==◌, ◌<◌, ℕ, suc, true, false, List, [], ◌∷◌, ◌++◌, length, Option, Some, None, IsSome, refl, sym, ap, subst, ◌∙◌, inl, inr, arith}
+use Rattle.std.proofs.Common.{◌≡◌, ◌⊎◌, ◌<◌, ℕ, suc, true, false, List, [], ◌∷◌, ◌++◌, length, Option, Some, None, IsSome, refl, sym, ap, subst, ◌∙◌, inl, inr, arith}
 use Rattle.lmn_base.specs.Lists.{In}
 use Rattle.lmn_base.proofs.Lists.{plus_nothing}
 use Rattle.lmn_store_heap.specs.Lists.{Distinct, without}
-use Rattle.lmn_store_heap.proofs.ListLemmas.{in_split, in_left, in_right, without_at}
+use Rattle.lmn_store_heap.proofs.ListLemmas.{in_split, in_right, without_at}
 use Rattle.lmn_web_cells.specs.Cells.{HeldCell, HaveLinks, IsLinkWord, link_of, numbers_of}
 use Rattle.lmn_web_cells.specs.Runs.{Node, RunsThrough, link_in, put_before}
 use Rattle.lmn_web_cells.proofs.RunLemmas.{before_behind, prev_in, last_next, split, last_in as last_of_run}

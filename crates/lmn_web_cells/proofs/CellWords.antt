@@ -1,5 +1,5 @@
 -- The words of a cell, read and written.
-use Rattle.std.proofs.Common.{◌≡◌, ◌≢◌, ℕ, zero, suc, ◌+◌, ◌-◌, ◌*◌, ◌/◌, ◌%◌, ◌<◌, ◌≤◌, Bool, true, false, List, [], ◌∷◌, ◌++◌, length, take, drop, get_or, set, Option, Some, None, if◌then◌else◌, refl, sym, subst, ap, ◌∙◌, inl, inr, arith, get_or-set_same, get_or-set_other, length-take}
+use Rattle.std.proofs.Common.{◌≡◌, ℕ, zero, suc, ◌+◌, ◌-◌, ◌*◌, ◌/◌, ◌%◌, ◌<◌, ◌≤◌, Bool, true, false, List, [], ◌∷◌, ◌++◌, length, take, drop, get_or, set, Option, Some, None, if◌then◌else◌, refl, sym, subst, ap, ◌∙◌, inl, inr, arith, get_or-set_same, get_or-set_other, length-take}
 use Rattle.lmn_web_cells.specs.Rows.{Item, blank, number, halves, halves_in, with_half, half_at, with_half_at, place_of, place_ptr}
 use Rattle.lmn_web_cells.specs.Cells.{HeldPort, HeldCell, link_to, link_items, number_items, first_items, port_items, end_items, cell_items, led_to, first_links, first_numbers, numbers_by, ports_by, is_number, is_membrane, last_numbers, last_link, cell_by, IsShaped, no_port}
 use Rattle.std.proofs.Math.Seq.{take-set-lt}

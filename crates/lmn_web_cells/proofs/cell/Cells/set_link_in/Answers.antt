@@ -1,4 +1,4 @@
-use Rattle.std.proofs.Common.{◌≡◌, ◌∙◌, List, IsSome, sym, subst, ap, arith}
+use Rattle.std.proofs.Common.{◌∙◌, List, IsSome, sym, subst, ap}
 use Rattle.std.specs.Option.{option_map}
 use Rattle.lmn_web_cells.specs.Rows.{Row, link}
 use Rattle.lmn_web_cells.specs.Cells.{cells_by, link_to, with_link, IsLinkWord, link_of}
