@@ -26,3 +26,4 @@ pub mod Woken
 pub mod Touched
 pub mod Roused
 pub mod EmptyExamples
+pub mod Listing

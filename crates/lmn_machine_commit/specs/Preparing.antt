@@ -1,5 +1,5 @@
 -- What it means that the code of a body is prepared.
-use Rattle.std.specs.Prelude.{ℕ, ◌≡◌, ◌<◌, ◌≤◌, ◌+◌, ◌⊎◌, ◌==◌, if◌then◌else◌, List, [], ◌∷◌, ◌++◌, Option, None, Some, IsSome, length, slice_get}
+use Rattle.std.specs.Prelude.{ℕ, ◌≡◌, ◌<◌, ◌≤◌, ◌+◌, ◌⊎◌, ◌==◌, if◌then◌else◌, List, [], ◌∷◌, ◌++◌, Option, None, Some, IsSome, length, map, slice_get}
 use Rattle.lmn_base.specs.declared.functor.Functor.{Functor}
 use Rattle.lmn_base.specs.Graphs.{Reached}
 use Rattle.lmn_store_heap.specs.Graphs.{atom_map}
@@ -8,6 +8,7 @@ use Rattle.lmn_store_heap.specs.Conditions.{Alone}
 use Rattle.lmn_ground.specs.Spread.{IsWhole}
 use Rattle.lmn_ground_parts.specs.Copies.{Copied, LeadsOut}
 use Rattle.lmn_ground_parts.specs.Rests.{NoneLeaves, RestCopied}
+use Rattle.lmn_ground_parts.specs.Walks.{IsPartInDepth}
 use Rattle.lmn_instr_code.specs.declared.instr.NewPort.{NewPort}
 use Rattle.lmn_instr_code.specs.declared.instr.NewPort.TheVariants as new
 use Rattle.lmn_instr_code.specs.declared.instr.Instr.{Instr}
@@ -113,6 +114,19 @@ KeepsCount (NewMem m n) = ⊥
 KeepsCount (LoadRule m k) = ⊥
 KeepsCount (CopyRules m n) = ⊥
 KeepsCount _ = Unit {0}
+
+-- an instruction copies no part
+abbrev pub CopiesNone : Instr → Type 0
+CopiesNone (CopyGround x y z) = ⊥
+CopiesNone _ = Unit {0}
+
+-- The instruction before a place of code copies the part in this register.
+abbrev pub CopiesBefore : List Instr → (at part : ℕ) → Type 0
+CopiesBefore code at part = (k x y : ℕ) × (at ≡ k + 1) × (slice_get code k ≡ Some (CopyGround x y part))
+
+-- Where the instruction before a place of code copies a part, these are the atoms of that, as a walk finds them.
+abbrev pub ListsCopied : {A : Type 0} → (A → ℕ) → Heap → List (A × ℕ) → List Instr → ℕ → List A → Type 0
+ListsCopied {A} atom s parts code at trail = (part : ℕ) (p : A × ℕ) → CopiesBefore code at part → slice_get parts part ≡ Some p → IsPartInDepth s (port_id atom p) (map atom trail)
 
 -- ---- what a match must hold, and what is prepared
 
