@@ -122,15 +122,6 @@ fn run<S: LinkStore>(
     }
 }
 
-/// The instruction at a place.
-#[inline(always)]
-fn at(code: &[Instr], i: usize) -> &Instr
-    requires { i < length code.now }
-    ensures { slice_get code.now i ≡ Some result.now }
-{
-    &code[i]
-}
-
 /// Does what code does, one instruction after the other.
 #[inline(always)]
 fn run_each<S: LinkStore>(
@@ -145,8 +136,10 @@ fn run_each<S: LinkStore>(
     ensures commits { (r : Registers) → AgreesWithCopies S.atom_id S.mem_id set.now r → Runs r code.now (S.heap store.old) → DoesAll r code.now (S.heap store.old) (S.heap store.new) }
     ensures unmarked { Unmarked (S.heap store.new) }
 {
-    for i in 0..code.len() {
-        run(store, at(code, i), set, trail);
+    let mut rest = code;
+    while let Some((instr, behind)) = rest.split_first() {
+        run(store, instr, set, trail);
+        rest = behind;
     }
 }
 
