@@ -30,13 +30,20 @@ pub enum Turn {
     NoMemory,
 }
 
-/// Whether so many items and as many more for each of `many` instructions are at most `size`. The answer is no where the sum is
-/// too large to be told.
+/// Whether so many items and, for each of `many` instructions, as many more and one are at most `size`. With the root counted they are a
+/// product. The answer is no where that is too large to be told.
 fn is_roomy(items: u64, many: u64, size: u64) -> bool
-    requires { size < 2 ^ 64 - 1 }
+    requires many { many < 2 ^ 63 }
+    requires size { size < 2 ^ 64 - 1 }
     ensures { IsTrue result → items + many * (items + 1) ≤ size }
 {
-    items.saturating_add(many.saturating_mul(items.saturating_add(1))) <= size
+    let Some(all) = items.checked_add(1) else {
+        return false;
+    };
+    match all.checked_mul(many + 1) {
+        Some(most) => most <= size + 1,
+        None => false,
+    }
 }
 
 /// Whether the commit with a code leaves at most `size` items. They are counted only where there may be more: an instruction
