@@ -30,7 +30,7 @@ pub(crate) fn find<S: LinkStore>(
     let mut patience = Patience::new();
     set.clear();
     set.membranes.push(membrane);
-    if search::begin(store, code, set, &mut patience) {
+    if search::begin(store, code, 0, set, &mut patience) {
         return true;
     }
     if !patience.is_gone() {

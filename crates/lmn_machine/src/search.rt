@@ -18,29 +18,32 @@ use lmn_instr_pool::Instrs;
 use lmn_machine_registers::SetRegisters;
 use lmn_store_trait::LinkStore;
 
-/// Runs the whole of code. Where it begins with a FINDATOM, as most heads do, the candidates of this are tried at once: a head
-/// whose first atom is missing is left after one look-up.
+/// Runs code from an instruction on. Where it begins there with a FINDATOM, as most heads do, and most code behind an ANYMEM, the
+/// candidates of this are tried at once: where the first atom is missing, it is left after one look-up.
+#[cycle(search)]
 #[inline(always)]
 pub fn begin<S: LinkStore>(
     store: &mut S,
     code: &Instrs<'_>,
+    at: usize,
     set: &mut SetRegisters<S::Atom, S::Mem>,
     patience: &mut Patience,
 ) -> bool
     requires valid { Valid (S.heap store.old) }
     requires unmarked { Unmarked (S.heap store.old) }
     requires held { AreHeldWhole S.atom_id S.mem_id (S.heap store.old) set.old }
-    requires order { HeadInOrder (length set.old.atoms) (length set.old.membranes) (length set.old.parts) (length set.old.integers) code.now }
+    requires at { at ≤ length code.now }
+    requires order { HeadInOrder (length set.old.atoms) (length set.old.membranes) (length set.old.parts) (length set.old.integers) (drop at code.now) }
     ensures same { S.heap store.new ≡ S.heap store.old }
-    ensures searched { Lasted patience.new.left S.atom_id S.mem_id (S.heap store.old) set.old set.new result code.now }
+    ensures searched { Lasted patience.new.left S.atom_id S.mem_id (S.heap store.old) set.old set.new result (drop at code.now) }
 {
-    if code.len() > 0 {
-        let first = code.at(0);
+    if at < code.len() {
+        let first = code.at(at);
         if let Instr::FindAtom { .. } = first {
-            return choose_atom(store, code, 0, first, set, patience);
+            return choose_atom(store, code, at, first, set, patience);
         }
     }
-    search(store, code, 0, set, patience)
+    search(store, code, at, set, patience)
 }
 
 /// Runs code from an instruction on, and tries the candidates of its first choice in order. Where patience is gone, it gives up.
@@ -218,7 +221,7 @@ fn search_home<S: LinkStore>(
             let (atoms, membranes) = (set.atoms.len(), set.membranes.len());
             let (parts, integers) = (set.parts.len(), set.integers.len());
             set.membranes.push(membrane);
-            if search(store, code, rest, set, patience) {
+            if begin(store, code, rest, set, patience) {
                 return true;
             }
             set.keep(atoms, membranes, parts, integers);
@@ -255,7 +258,7 @@ fn search_membranes<S: LinkStore>(
     let mut candidate = ahead::fitting_membrane(store, place, first, asked);
     while let Some(membrane) = candidate {
         set.membranes.push(membrane);
-        if search(store, code, rest, set, patience) {
+        if begin(store, code, rest, set, patience) {
             return true;
         }
         if !patience.lasts() {

@@ -10,6 +10,7 @@ use Rattle.std.proofs.lemmas.Option.{slice_get_within}
 use Rattle.lmn_store_heap.specs.Heap.{Heap, functor_of, home_of, parent_of, atoms_in, mems_in, Unmarked}
 use Rattle.lmn_instr_code.specs.declared.instr.Instr.TheVariants.{FindAtom, AnyMem}
 use Rattle.lmn_store_heap.specs.Sound.{Valid}
+use Rattle.lmn_machine.specs.Outcomes.{ChoosesAtoms}
 use Rattle.lmn_machine.specs.Searching.{AreHeldWhole, Extends, HeadInOrder, Searched, Stepped}
 use Rattle.lmn_machine_registers.specs.declared.stack.TheConstants.{ROOM}
 use Rattle.lmn_machine.specs.Jumping.{Lasted, with_atom, with_membrane}
@@ -21,6 +22,10 @@ use Rattle.lmn_machine.proofs.Calling.{read_at, drop_none, order_first, if_both,
 use Rattle.lmn_machine.proofs.search.+search.Goals as goal
 use Rattle.lmn_base.proofs.Lists.{drop_get}
 use Rattle.std.proofs.lemmas.List.{length_push}
+
+pub begin-choose_atom-requires : goal.begin-choose_atom-requires
+begin-choose_atom-requires g t c κs within =
+    (search rules, (search rules, (search rules, (search rules, (c.requires.valid, (c.requires.unmarked, (c.requires.held, (c.at-first.ensures, (subst ChoosesAtoms (sym c.in-FindAtom.is) tt, c.requires.order)))))))))
 
 pub search-choose_atom-requires : goal.search-choose_atom-requires
 search-choose_atom-requires g t c κs within = (
@@ -300,8 +305,8 @@ search_home-push-requires g t c =
     let ahead = membrane_ahead (length c.args.set.now.atoms) (length c.args.set.now.membranes) (length c.args.set.now.parts) (length c.args.set.now.integers) (length c.args.set.now.membranes) c.requires.at.0 (drop c.args.at c.args.code.now) (drop (c.args.at + 1) c.args.code.now) (drop_get c.args.at c.args.code.now (AnyMem (length c.args.set.now.membranes) c.requires.at.0) c.requires.at.1) c.requires.order in
     ahead.0.2
 
-pub search_home-search-requires : goal.search_home-search-requires
-search_home-search-requires g t c κs within =
+pub search_home-begin-requires : goal.search_home-begin-requires
+search_home-begin-requires g t c κs within =
     let more = one_membrane_more c.args.set.now c.args.set.now c.in-Some.membrane c.push.new.self refl c.push.ensures in
     let ahead = membrane_ahead (length c.args.set.now.atoms) (length c.args.set.now.membranes) (length c.args.set.now.parts) (length c.args.set.now.integers) (length c.args.set.now.membranes) c.requires.at.0 (drop c.args.at c.args.code.now) (drop (c.args.at + 1) c.args.code.now) (drop_get c.args.at c.args.code.now (AnyMem (length c.args.set.now.membranes) c.requires.at.0) c.requires.at.1) c.requires.order in
     let below : c.args.at < length c.args.code.now = slice_get_within c.args.code.now c.args.at (AnyMem (length c.args.set.now.membranes) c.requires.at.0) c.requires.at.1 in
@@ -323,24 +328,24 @@ search_home-search-requires g t c κs within =
       ),
     )
 
-pub search_home-returns-then-search-clause-searched : goal.search_home-returns-then-search-clause-searched
-search_home-returns-then-search-clause-searched g t c =
+pub search_home-returns-then-begin-clause-searched : goal.search_home-returns-then-begin-clause-searched
+search_home-returns-then-begin-clause-searched g t c =
     let more = one_membrane_more c.args.set.now c.args.set.now c.in-Some.membrane c.push.new.self refl c.push.ensures in
     let only = subst (λ o. OnlyOne g.S.LinkStore.atom_id g.S.LinkStore.mem_id (g.S.LinkStore.heap c.args.store.now) c.args.set.now (drop c.args.at c.args.code.now) o) c.in-Some.is
     (only_home g.S.LinkStore.atom_id g.S.LinkStore.mem_id (g.S.LinkStore.heap c.args.store.now) c.args.set.now (drop c.args.at c.args.code.now) (drop (c.args.at + 1) c.args.code.now) c.requires.at.0 c.args.place (g.S.LinkStore.atom_id c.args.guest) c.home_within.result (drop_get c.args.at c.args.code.now (AnyMem (length c.args.set.now.membranes) c.requires.at.0) c.requires.at.1) c.requires.at.2 c.requires.guest c.home_within.ensures.only) in
-    let searched = subst (λ k. Searched g.S.LinkStore.atom_id g.S.LinkStore.mem_id (g.S.LinkStore.heap c.args.store.now) k c.search.new.set true (drop (c.args.at + 1) c.args.code.now)) more (subst (λ b. Searched g.S.LinkStore.atom_id g.S.LinkStore.mem_id (g.S.LinkStore.heap c.args.store.now) (having_membranes c.args.set.now c.push.new.self) c.search.new.set b (drop (c.args.at + 1) c.args.code.now)) c.if-search.true (c.search.ensures.searched.found c.if-search.true)) in
-    lasted g.S.LinkStore.atom_id g.S.LinkStore.mem_id (g.S.LinkStore.heap c.args.store.now) _ _ _ _ _ (membranes_found g.S.LinkStore.atom_id g.S.LinkStore.mem_id (g.S.LinkStore.heap c.args.store.now) c.args.set.now c.search.new.set (drop c.args.at c.args.code.now) (drop (c.args.at + 1) c.args.code.now) c.requires.at.0 c.args.place c.in-Some.membrane (drop_get c.args.at c.args.code.now (AnyMem (length c.args.set.now.membranes) c.requires.at.0) c.requires.at.1) c.requires.at.2 c.requires.valid.sound.listed c.in-Some.ensures.parent
+    let searched = subst (λ k. Searched g.S.LinkStore.atom_id g.S.LinkStore.mem_id (g.S.LinkStore.heap c.args.store.now) k c.begin.new.set true (drop (c.args.at + 1) c.args.code.now)) more (subst (λ b. Searched g.S.LinkStore.atom_id g.S.LinkStore.mem_id (g.S.LinkStore.heap c.args.store.now) (having_membranes c.args.set.now c.push.new.self) c.begin.new.set b (drop (c.args.at + 1) c.args.code.now)) c.if-begin.true (c.begin.ensures.searched.found c.if-begin.true)) in
+    lasted g.S.LinkStore.atom_id g.S.LinkStore.mem_id (g.S.LinkStore.heap c.args.store.now) _ _ _ _ _ (membranes_found g.S.LinkStore.atom_id g.S.LinkStore.mem_id (g.S.LinkStore.heap c.args.store.now) c.args.set.now c.begin.new.set (drop c.args.at c.args.code.now) (drop (c.args.at + 1) c.args.code.now) c.requires.at.0 c.args.place c.in-Some.membrane (drop_get c.args.at c.args.code.now (AnyMem (length c.args.set.now.membranes) c.requires.at.0) c.requires.at.1) c.requires.at.2 c.requires.valid.sound.listed c.in-Some.ensures.parent
     (only_left g.S.LinkStore.atom_id g.S.LinkStore.mem_id (g.S.LinkStore.heap c.args.store.now) c.args.set.now (drop c.args.at c.args.code.now) c.args.place (Some c.in-Some.membrane) only) searched)
 
-pub search_home-returns-else-search-clause-searched : goal.search_home-returns-else-search-clause-searched
-search_home-returns-else-search-clause-searched g t c =
+pub search_home-returns-else-begin-clause-searched : goal.search_home-returns-else-begin-clause-searched
+search_home-returns-else-begin-clause-searched g t c =
     let more = one_membrane_more c.args.set.now c.args.set.now c.in-Some.membrane c.push.new.self refl c.push.ensures in
     let only = subst (λ o. OnlyOne g.S.LinkStore.atom_id g.S.LinkStore.mem_id (g.S.LinkStore.heap c.args.store.now) c.args.set.now (drop c.args.at c.args.code.now) o) c.in-Some.is
     (only_home g.S.LinkStore.atom_id g.S.LinkStore.mem_id (g.S.LinkStore.heap c.args.store.now) c.args.set.now (drop c.args.at c.args.code.now) (drop (c.args.at + 1) c.args.code.now) c.requires.at.0 c.args.place (g.S.LinkStore.atom_id c.args.guest) c.home_within.result (drop_get c.args.at c.args.code.now (AnyMem (length c.args.set.now.membranes) c.requires.at.0) c.requires.at.1) c.requires.at.2 c.requires.guest c.home_within.ensures.only) in
-    let searched = λ (l : 0 < c.search.new.patience.left). subst (λ k. Searched g.S.LinkStore.atom_id g.S.LinkStore.mem_id (g.S.LinkStore.heap c.args.store.now) k c.search.new.set false (drop (c.args.at + 1) c.args.code.now)) more (subst (λ b. Searched g.S.LinkStore.atom_id g.S.LinkStore.mem_id (g.S.LinkStore.heap c.args.store.now) (having_membranes c.args.set.now c.push.new.self) c.search.new.set b (drop (c.args.at + 1) c.args.code.now)) c.if-search.false (c.search.ensures.searched.searched l)) in
-    let taken = taken_back c.args.set.now c.search.new.set c.keep.new.self c.len-atoms.result c.len-membranes.result c.len-parts.result c.len-integers.result c.len-atoms.ensures c.len-membranes.ensures c.len-parts.ensures c.len-integers.ensures
-    (extends_on g.S.LinkStore.atom_id g.S.LinkStore.mem_id (g.S.LinkStore.heap c.args.store.now) c.args.set.now (with_membrane c.args.set.now c.in-Some.membrane) c.search.new.set (extends_membrane g.S.LinkStore.atom_id g.S.LinkStore.mem_id (g.S.LinkStore.heap c.args.store.now) c.args.set.now c.in-Some.membrane) (subst (λ k. Extends k c.search.new.set) more c.search.ensures.searched.extends)) c.keep.ensures in
-    subst (λ k. Lasted c.search.new.patience.left g.S.LinkStore.atom_id g.S.LinkStore.mem_id (g.S.LinkStore.heap c.args.store.now) c.args.set.now k false (drop c.args.at c.args.code.now)) (sym taken) (lasted_by g.S.LinkStore.atom_id g.S.LinkStore.mem_id (g.S.LinkStore.heap c.args.store.now) c.search.new.patience.left c.args.set.now c.args.set.now (drop c.args.at c.args.code.now) c.requires.held (extends_itself g.S.LinkStore.atom_id g.S.LinkStore.mem_id (g.S.LinkStore.heap c.args.store.now) c.args.set.now) (λ l. only_fails g.S.LinkStore.atom_id g.S.LinkStore.mem_id (g.S.LinkStore.heap c.args.store.now) c.args.set.now c.search.new.set (drop c.args.at c.args.code.now) (drop (c.args.at + 1) c.args.code.now) c.requires.at.0 c.in-Some.membrane (drop_get c.args.at c.args.code.now (AnyMem (length c.args.set.now.membranes) c.requires.at.0) c.requires.at.1) c.requires.held only (searched l)))
+    let searched = λ (l : 0 < c.begin.new.patience.left). subst (λ k. Searched g.S.LinkStore.atom_id g.S.LinkStore.mem_id (g.S.LinkStore.heap c.args.store.now) k c.begin.new.set false (drop (c.args.at + 1) c.args.code.now)) more (subst (λ b. Searched g.S.LinkStore.atom_id g.S.LinkStore.mem_id (g.S.LinkStore.heap c.args.store.now) (having_membranes c.args.set.now c.push.new.self) c.begin.new.set b (drop (c.args.at + 1) c.args.code.now)) c.if-begin.false (c.begin.ensures.searched.searched l)) in
+    let taken = taken_back c.args.set.now c.begin.new.set c.keep.new.self c.len-atoms.result c.len-membranes.result c.len-parts.result c.len-integers.result c.len-atoms.ensures c.len-membranes.ensures c.len-parts.ensures c.len-integers.ensures
+    (extends_on g.S.LinkStore.atom_id g.S.LinkStore.mem_id (g.S.LinkStore.heap c.args.store.now) c.args.set.now (with_membrane c.args.set.now c.in-Some.membrane) c.begin.new.set (extends_membrane g.S.LinkStore.atom_id g.S.LinkStore.mem_id (g.S.LinkStore.heap c.args.store.now) c.args.set.now c.in-Some.membrane) (subst (λ k. Extends k c.begin.new.set) more c.begin.ensures.searched.extends)) c.keep.ensures in
+    subst (λ k. Lasted c.begin.new.patience.left g.S.LinkStore.atom_id g.S.LinkStore.mem_id (g.S.LinkStore.heap c.args.store.now) c.args.set.now k false (drop c.args.at c.args.code.now)) (sym taken) (lasted_by g.S.LinkStore.atom_id g.S.LinkStore.mem_id (g.S.LinkStore.heap c.args.store.now) c.begin.new.patience.left c.args.set.now c.args.set.now (drop c.args.at c.args.code.now) c.requires.held (extends_itself g.S.LinkStore.atom_id g.S.LinkStore.mem_id (g.S.LinkStore.heap c.args.store.now) c.args.set.now) (λ l. only_fails g.S.LinkStore.atom_id g.S.LinkStore.mem_id (g.S.LinkStore.heap c.args.store.now) c.args.set.now c.begin.new.set (drop c.args.at c.args.code.now) (drop (c.args.at + 1) c.args.code.now) c.requires.at.0 c.in-Some.membrane (drop_get c.args.at c.args.code.now (AnyMem (length c.args.set.now.membranes) c.requires.at.0) c.requires.at.1) c.requires.held only (searched l)))
 
 pub search_home-returns-in-None-clause-searched : goal.search_home-returns-in-None-clause-searched
 search_home-returns-in-None-clause-searched g t c =
@@ -361,30 +366,30 @@ search_membranes-loop-candidate-init g t c =
 
 pub search_membranes-loop-candidate-smaller : goal.search_membranes-loop-candidate-smaller
 search_membranes-loop-candidate-smaller g t c =
-    let same : g.S.LinkStore.heap c.search.new.store ≡ g.S.LinkStore.heap c.args.store.now = c.search.ensures.same ∙ c.loop-candidate.invariant.same in
+    let same : g.S.LinkStore.heap c.begin.new.store ≡ g.S.LinkStore.heap c.args.store.now = c.begin.ensures.same ∙ c.loop-candidate.invariant.same in
     let there = subst (λ o. IfSome o (λ m. parent_of (g.S.LinkStore.heap c.args.store.now) (g.S.LinkStore.mem_id m) ≡ Some (g.S.LinkStore.mem_id c.args.place))) c.in-Some.is c.loop-candidate.invariant.there in
-    let next = next_mem_same g.S.LinkStore.mem_id (g.S.LinkStore.heap c.args.store.now) (g.S.LinkStore.heap c.search.new.store) c.in-Some.membrane c.next_mem-next.result same c.next_mem-next.ensures.list c.next_mem-next.ensures.parent in
+    let next = next_mem_same g.S.LinkStore.mem_id (g.S.LinkStore.heap c.args.store.now) (g.S.LinkStore.heap c.begin.new.store) c.in-Some.membrane c.next_mem-next.result same c.next_mem-next.ensures.list c.next_mem-next.ensures.parent in
     let further = subst (λ (h : Heap). length (from (option_map g.S.LinkStore.mem_id c.fitting_membrane-candidate-in-Some.result) (mems_in h (g.S.LinkStore.mem_id c.args.place))) ≤ length (from (option_map g.S.LinkStore.mem_id c.next_mem-next.result) (mems_in h (g.S.LinkStore.mem_id c.args.place)))) same c.fitting_membrane-candidate-in-Some.ensures.further in
     subst (λ o. length (from (option_map g.S.LinkStore.mem_id c.fitting_membrane-candidate-in-Some.result) (mems_in (g.S.LinkStore.heap c.args.store.now) (g.S.LinkStore.mem_id c.args.place))) < length (from (option_map g.S.LinkStore.mem_id o) (mems_in (g.S.LinkStore.heap c.args.store.now) (g.S.LinkStore.mem_id c.args.place)))) (sym c.in-Some.is)
     (smaller (g.S.LinkStore.mem_id c.in-Some.membrane) (option_map g.S.LinkStore.mem_id c.next_mem-next.result) (option_map g.S.LinkStore.mem_id c.fitting_membrane-candidate-in-Some.result) (mems_in (g.S.LinkStore.heap c.args.store.now) (g.S.LinkStore.mem_id c.args.place)) (next.0 (g.S.LinkStore.mem_id c.args.place) there) further)
 
 pub search_membranes-loop-candidate-preserved : goal.search_membranes-loop-candidate-preserved
 search_membranes-loop-candidate-preserved g t c =
-    let same : g.S.LinkStore.heap c.search.new.store ≡ g.S.LinkStore.heap c.args.store.now = c.search.ensures.same ∙ c.loop-candidate.invariant.same in
+    let same : g.S.LinkStore.heap c.begin.new.store ≡ g.S.LinkStore.heap c.args.store.now = c.begin.ensures.same ∙ c.loop-candidate.invariant.same in
     let there = subst (λ o. IfSome o (λ m. parent_of (g.S.LinkStore.heap c.args.store.now) (g.S.LinkStore.mem_id m) ≡ Some (g.S.LinkStore.mem_id c.args.place))) c.in-Some.is c.loop-candidate.invariant.there in
-    let next = next_mem_same g.S.LinkStore.mem_id (g.S.LinkStore.heap c.args.store.now) (g.S.LinkStore.heap c.search.new.store) c.in-Some.membrane c.next_mem-next.result same c.next_mem-next.ensures.list c.next_mem-next.ensures.parent in
+    let next = next_mem_same g.S.LinkStore.mem_id (g.S.LinkStore.heap c.args.store.now) (g.S.LinkStore.heap c.begin.new.store) c.in-Some.membrane c.next_mem-next.result same c.next_mem-next.ensures.list c.next_mem-next.ensures.parent in
     let asks = subst (λ n. IfSome c.asked-asked.result (λ f. AsksFor c.args.code.now (c.args.at + 1) n f)) c.len-membranes.ensures c.asked-asked.ensures in
     let more = one_membrane_more c.args.set.now c.loop-candidate.set c.in-Some.membrane c.push.new.self c.loop-candidate.invariant.set c.push.ensures in
     let left = subst (λ o. MembranesLeft g.S.LinkStore.atom_id g.S.LinkStore.mem_id (g.S.LinkStore.heap c.args.store.now) c.args.set.now (drop c.args.at c.args.code.now) c.args.place o) c.in-Some.is c.loop-candidate.invariant.left in
-    let searched = subst (λ k. Searched g.S.LinkStore.atom_id g.S.LinkStore.mem_id (g.S.LinkStore.heap c.args.store.now) k c.search.new.set false (drop (c.args.at + 1) c.args.code.now)) more (subst (λ b. Searched g.S.LinkStore.atom_id g.S.LinkStore.mem_id (g.S.LinkStore.heap c.args.store.now) (having_membranes c.loop-candidate.set c.push.new.self) c.search.new.set b (drop (c.args.at + 1) c.args.code.now)) c.if-search.false
-    (subst (λ h. Searched g.S.LinkStore.atom_id g.S.LinkStore.mem_id h (having_membranes c.loop-candidate.set c.push.new.self) c.search.new.set c.search.result (drop (c.args.at + 1) c.args.code.now)) c.loop-candidate.invariant.same (c.search.ensures.searched.searched (c.lasts.ensures.some c.if-not-lasts.false)))) in
+    let searched = subst (λ k. Searched g.S.LinkStore.atom_id g.S.LinkStore.mem_id (g.S.LinkStore.heap c.args.store.now) k c.begin.new.set false (drop (c.args.at + 1) c.args.code.now)) more (subst (λ b. Searched g.S.LinkStore.atom_id g.S.LinkStore.mem_id (g.S.LinkStore.heap c.args.store.now) (having_membranes c.loop-candidate.set c.push.new.self) c.begin.new.set b (drop (c.args.at + 1) c.args.code.now)) c.if-begin.false
+    (subst (λ h. Searched g.S.LinkStore.atom_id g.S.LinkStore.mem_id h (having_membranes c.loop-candidate.set c.push.new.self) c.begin.new.set c.begin.result (drop (c.args.at + 1) c.args.code.now)) c.loop-candidate.invariant.same (c.begin.ensures.searched.searched (c.lasts.ensures.some c.if-not-lasts.false)))) in
     let fit = subst (λ h. MembranesFit g.S.LinkStore.mem_id h c.asked-asked.result (g.S.LinkStore.mem_id c.args.place) c.next_mem-next.result c.fitting_membrane-candidate-in-Some.result) same c.fitting_membrane-candidate-in-Some.ensures.left in
     record {
       same = same;
-      set = taken_back c.args.set.now c.search.new.set c.keep.new.self c.len-atoms.result c.len-membranes.result c.len-parts.result c.len-integers.result c.len-atoms.ensures c.len-membranes.ensures c.len-parts.ensures c.len-integers.ensures
-          (extends_on g.S.LinkStore.atom_id g.S.LinkStore.mem_id (g.S.LinkStore.heap c.args.store.now) c.args.set.now (with_membrane c.args.set.now c.in-Some.membrane) c.search.new.set (extends_membrane g.S.LinkStore.atom_id g.S.LinkStore.mem_id (g.S.LinkStore.heap c.args.store.now) c.args.set.now c.in-Some.membrane) searched.extends) c.keep.ensures;
+      set = taken_back c.args.set.now c.begin.new.set c.keep.new.self c.len-atoms.result c.len-membranes.result c.len-parts.result c.len-integers.result c.len-atoms.ensures c.len-membranes.ensures c.len-parts.ensures c.len-integers.ensures
+          (extends_on g.S.LinkStore.atom_id g.S.LinkStore.mem_id (g.S.LinkStore.heap c.args.store.now) c.args.set.now (with_membrane c.args.set.now c.in-Some.membrane) c.begin.new.set (extends_membrane g.S.LinkStore.atom_id g.S.LinkStore.mem_id (g.S.LinkStore.heap c.args.store.now) c.args.set.now c.in-Some.membrane) searched.extends) c.keep.ensures;
       left = membranes_fit g.S.LinkStore.atom_id g.S.LinkStore.mem_id (g.S.LinkStore.heap c.args.store.now) c.args.set.now c.args.code.now (drop c.args.at c.args.code.now) (c.args.at + 1) c.requires.at.0 c.args.place c.asked-asked.result c.next_mem-next.result c.fitting_membrane-candidate-in-Some.result (drop_get c.args.at c.args.code.now (AnyMem (length c.args.set.now.membranes) c.requires.at.0) c.requires.at.1)
-          (membranes_next g.S.LinkStore.atom_id g.S.LinkStore.mem_id (g.S.LinkStore.heap c.args.store.now) c.args.set.now c.search.new.set (drop c.args.at c.args.code.now) (drop (c.args.at + 1) c.args.code.now) c.requires.at.0 c.args.place c.in-Some.membrane c.next_mem-next.result (drop_get c.args.at c.args.code.now (AnyMem (length c.args.set.now.membranes) c.requires.at.0) c.requires.at.1) left searched (next.0 (g.S.LinkStore.mem_id c.args.place) there)) asks fit;
+          (membranes_next g.S.LinkStore.atom_id g.S.LinkStore.mem_id (g.S.LinkStore.heap c.args.store.now) c.args.set.now c.begin.new.set (drop c.args.at c.args.code.now) (drop (c.args.at + 1) c.args.code.now) c.requires.at.0 c.args.place c.in-Some.membrane c.next_mem-next.result (drop_get c.args.at c.args.code.now (AnyMem (length c.args.set.now.membranes) c.requires.at.0) c.requires.at.1) left searched (next.0 (g.S.LinkStore.mem_id c.args.place) there)) asks fit;
       there = subst (λ (h : Heap). IfSome c.fitting_membrane-candidate-in-Some.result (λ m. parent_of h (g.S.LinkStore.mem_id m) ≡ Some (g.S.LinkStore.mem_id c.args.place))) same c.fitting_membrane-candidate-in-Some.ensures.parent;
     }
 
@@ -394,8 +399,8 @@ search_membranes-push-requires g t c =
     (drop_get c.args.at c.args.code.now (AnyMem (length c.args.set.now.membranes) c.requires.at.0) c.requires.at.1) c.requires.order in
     subst (λ k. length k.membranes < ROOM) (sym c.loop-candidate.invariant.set) ahead.0.2
 
-pub search_membranes-search-requires : goal.search_membranes-search-requires
-search_membranes-search-requires g t c κs within =
+pub search_membranes-begin-requires : goal.search_membranes-begin-requires
+search_membranes-begin-requires g t c κs within =
     let there = subst (λ o. IfSome o (λ m. parent_of (g.S.LinkStore.heap c.args.store.now) (g.S.LinkStore.mem_id m) ≡ Some (g.S.LinkStore.mem_id c.args.place))) c.in-Some.is c.loop-candidate.invariant.there in
     let more = one_membrane_more c.args.set.now c.loop-candidate.set c.in-Some.membrane c.push.new.self c.loop-candidate.invariant.set c.push.ensures in
     let code = drop_get c.args.at c.args.code.now (AnyMem (length c.args.set.now.membranes) c.requires.at.0) c.requires.at.1 in
@@ -428,23 +433,23 @@ search_membranes-search-requires g t c κs within =
       ),
     )
 
-pub search_membranes-returns-then-search-clause-searched : goal.search_membranes-returns-then-search-clause-searched
-search_membranes-returns-then-search-clause-searched g t c =
+pub search_membranes-returns-then-begin-clause-searched : goal.search_membranes-returns-then-begin-clause-searched
+search_membranes-returns-then-begin-clause-searched g t c =
     let there = subst (λ o. IfSome o (λ m. parent_of (g.S.LinkStore.heap c.args.store.now) (g.S.LinkStore.mem_id m) ≡ Some (g.S.LinkStore.mem_id c.args.place))) c.in-Some.is c.loop-candidate.invariant.there in
     let more = one_membrane_more c.args.set.now c.loop-candidate.set c.in-Some.membrane c.push.new.self c.loop-candidate.invariant.set c.push.ensures in
     let code = drop_get c.args.at c.args.code.now (AnyMem (length c.args.set.now.membranes) c.requires.at.0) c.requires.at.1 in
     let left = subst (λ o. MembranesLeft g.S.LinkStore.atom_id g.S.LinkStore.mem_id (g.S.LinkStore.heap c.args.store.now) c.args.set.now (drop c.args.at c.args.code.now) c.args.place o) c.in-Some.is c.loop-candidate.invariant.left in
-    lasted g.S.LinkStore.atom_id g.S.LinkStore.mem_id (g.S.LinkStore.heap c.args.store.now) _ _ _ _ _ (membranes_found g.S.LinkStore.atom_id g.S.LinkStore.mem_id (g.S.LinkStore.heap c.args.store.now) c.args.set.now c.search.new.set (drop c.args.at c.args.code.now) (drop (c.args.at + 1) c.args.code.now) c.requires.at.0 c.args.place c.in-Some.membrane code c.requires.at.2
+    lasted g.S.LinkStore.atom_id g.S.LinkStore.mem_id (g.S.LinkStore.heap c.args.store.now) _ _ _ _ _ (membranes_found g.S.LinkStore.atom_id g.S.LinkStore.mem_id (g.S.LinkStore.heap c.args.store.now) c.args.set.now c.begin.new.set (drop c.args.at c.args.code.now) (drop (c.args.at + 1) c.args.code.now) c.requires.at.0 c.args.place c.in-Some.membrane code c.requires.at.2
     c.requires.valid.sound.listed there left
-    (subst (λ k. Searched g.S.LinkStore.atom_id g.S.LinkStore.mem_id (g.S.LinkStore.heap c.args.store.now) k c.search.new.set true (drop (c.args.at + 1) c.args.code.now)) more (subst (λ b. Searched g.S.LinkStore.atom_id g.S.LinkStore.mem_id (g.S.LinkStore.heap c.args.store.now) (having_membranes c.loop-candidate.set c.push.new.self) c.search.new.set b (drop (c.args.at + 1) c.args.code.now)) c.if-search.true
-    (subst (λ h. Searched g.S.LinkStore.atom_id g.S.LinkStore.mem_id h (having_membranes c.loop-candidate.set c.push.new.self) c.search.new.set c.search.result (drop (c.args.at + 1) c.args.code.now)) c.loop-candidate.invariant.same (c.search.ensures.searched.found c.if-search.true)))))
+    (subst (λ k. Searched g.S.LinkStore.atom_id g.S.LinkStore.mem_id (g.S.LinkStore.heap c.args.store.now) k c.begin.new.set true (drop (c.args.at + 1) c.args.code.now)) more (subst (λ b. Searched g.S.LinkStore.atom_id g.S.LinkStore.mem_id (g.S.LinkStore.heap c.args.store.now) (having_membranes c.loop-candidate.set c.push.new.self) c.begin.new.set b (drop (c.args.at + 1) c.args.code.now)) c.if-begin.true
+    (subst (λ h. Searched g.S.LinkStore.atom_id g.S.LinkStore.mem_id h (having_membranes c.loop-candidate.set c.push.new.self) c.begin.new.set c.begin.result (drop (c.args.at + 1) c.args.code.now)) c.loop-candidate.invariant.same (c.begin.ensures.searched.found c.if-begin.true)))))
 
 pub search_membranes-returns-then-not-lasts-clause-searched : goal.search_membranes-returns-then-not-lasts-clause-searched
 search_membranes-returns-then-not-lasts-clause-searched g t c =
     let more = one_membrane_more c.args.set.now c.loop-candidate.set c.in-Some.membrane c.push.new.self c.loop-candidate.invariant.set c.push.ensures in
-    given_up g.S.LinkStore.atom_id g.S.LinkStore.mem_id (g.S.LinkStore.heap c.args.store.now) c.lasts.new.self.left c.args.set.now c.search.new.set (drop c.args.at c.args.code.now) (c.lasts.ensures.gone c.if-not-lasts.true)
-    (subst (λ h. AreHeldWhole g.S.LinkStore.atom_id g.S.LinkStore.mem_id h c.search.new.set) c.loop-candidate.invariant.same c.search.ensures.searched.held)
-    (extends_on g.S.LinkStore.atom_id g.S.LinkStore.mem_id (g.S.LinkStore.heap c.args.store.now) c.args.set.now (with_membrane c.args.set.now c.in-Some.membrane) c.search.new.set (extends_membrane g.S.LinkStore.atom_id g.S.LinkStore.mem_id (g.S.LinkStore.heap c.args.store.now) c.args.set.now c.in-Some.membrane) (subst (λ k. Extends k c.search.new.set) more c.search.ensures.searched.extends))
+    given_up g.S.LinkStore.atom_id g.S.LinkStore.mem_id (g.S.LinkStore.heap c.args.store.now) c.lasts.new.self.left c.args.set.now c.begin.new.set (drop c.args.at c.args.code.now) (c.lasts.ensures.gone c.if-not-lasts.true)
+    (subst (λ h. AreHeldWhole g.S.LinkStore.atom_id g.S.LinkStore.mem_id h c.begin.new.set) c.loop-candidate.invariant.same c.begin.ensures.searched.held)
+    (extends_on g.S.LinkStore.atom_id g.S.LinkStore.mem_id (g.S.LinkStore.heap c.args.store.now) c.args.set.now (with_membrane c.args.set.now c.in-Some.membrane) c.begin.new.set (extends_membrane g.S.LinkStore.atom_id g.S.LinkStore.mem_id (g.S.LinkStore.heap c.args.store.now) c.args.set.now c.in-Some.membrane) (subst (λ k. Extends k c.begin.new.set) more c.begin.ensures.searched.extends))
 
 pub search_membranes-returns-clause-searched : goal.search_membranes-returns-clause-searched
 search_membranes-returns-clause-searched g t c =

@@ -9,22 +9,25 @@ use Rattle.lmn_machine.proofs.Choosing.{AtomsLeft, MembranesLeft}
 use Rattle.lmn_machine.proofs.search.+search.Given as goal
 
 abbrev pub decreases-search : goal.decreases-search
-decreases-search g l = 3 * (length l.code.now - l.at) + 2
+decreases-search g l = 4 * (length l.code.now - l.at) + 2
+
+abbrev pub decreases-begin : goal.decreases-begin
+decreases-begin g l = 4 * (length l.code.now - l.at) + 3
 
 abbrev pub decreases-choose_atom : goal.decreases-choose_atom
-decreases-choose_atom g l = 3 * (length l.code.now - l.at) + 1
+decreases-choose_atom g l = 4 * (length l.code.now - l.at) + 1
 
 abbrev pub decreases-choose_membrane : goal.decreases-choose_membrane
-decreases-choose_membrane g l = 3 * (length l.code.now - l.at) + 1
+decreases-choose_membrane g l = 4 * (length l.code.now - l.at) + 1
 
 abbrev pub decreases-search_atoms : goal.decreases-search_atoms
-decreases-search_atoms g l = 3 * (length l.code.now - l.at)
+decreases-search_atoms g l = 4 * (length l.code.now - l.at)
 
 abbrev pub decreases-search_home : goal.decreases-search_home
-decreases-search_home g l = 3 * (length l.code.now - l.at)
+decreases-search_home g l = 4 * (length l.code.now - l.at)
 
 abbrev pub decreases-search_membranes : goal.decreases-search_membranes
-decreases-search_membranes g l = 3 * (length l.code.now - l.at)
+decreases-search_membranes g l = 4 * (length l.code.now - l.at)
 
 abbrev pub invariant-search-loop-i : goal.invariant-search-loop-i
 invariant-search-loop-i g l = record {
