@@ -12,7 +12,7 @@ ghost use Rattle.lmn_machine.specs.Costs.{AddsItems, IsSize, IsTold, Leaves, Tak
 
 use crate::machine::Machine;
 use crate::rests::rest_items;
-use lmn_ground::size_of;
+use lmn_ground::{Found, size_of};
 use lmn_instr_code::Instr;
 use lmn_instr_pool::{Body, CodeView};
 use lmn_machine_registers::SetRegisters;
@@ -47,6 +47,7 @@ fn part_size<S: LinkStore>(
     set: &SetRegisters<S::Atom, S::Mem>,
     part: u16,
     kept: &mut Option<Counted>,
+    trail: &mut Found<S::Atom>,
 ) -> u64
     requires unmarked { Unmarked (S.heap store.old) }
     requires held { AreHeldWhole S.atom_id S.mem_id (S.heap store.old) set.now }
@@ -61,7 +62,7 @@ fn part_size<S: LinkStore>(
     }
     let _root = store.root();
     let root = set.parts.at(part as usize);
-    let atoms = size_of(store, root);
+    let atoms = size_of(store, root, trail);
     if atoms == 1 {
         return atoms;
     }
@@ -85,6 +86,7 @@ fn added<S: LinkStore>(
     set: &SetRegisters<S::Atom, S::Mem>,
     instr: &Instr,
     kept: &mut Option<Counted>,
+    trail: &mut Found<S::Atom>,
 ) -> u64
     requires valid { Valid (S.heap store.old) }
     requires unmarked { Unmarked (S.heap store.old) }
@@ -99,9 +101,9 @@ fn added<S: LinkStore>(
         Instr::NewAtom { .. } => 1,
         Instr::NewInt { .. } => 1,
         Instr::NewMem { .. } => 1,
-        Instr::CopyGround { part, .. } => part_size(store, set, *part, kept),
+        Instr::CopyGround { part, .. } => part_size(store, set, *part, kept, trail),
         Instr::LoadRule { .. } => 1,
-        Instr::CopyCells { from, .. } => rest_items(store, set, *from),
+        Instr::CopyCells { from, .. } => rest_items(store, set, *from, trail),
         Instr::CopyRules { from, .. } => rules_of(store, set, *from),
         _ => 0,
     }
@@ -113,6 +115,7 @@ fn taken<S: LinkStore>(
     set: &SetRegisters<S::Atom, S::Mem>,
     instr: &Instr,
     kept: &mut Option<Counted>,
+    trail: &mut Found<S::Atom>,
 ) -> u128
     requires valid { Valid (S.heap store.old) }
     requires unmarked { Unmarked (S.heap store.old) }
@@ -126,9 +129,9 @@ fn taken<S: LinkStore>(
 {
     match instr {
         Instr::RemoveAtom { .. } => 1,
-        Instr::RemovePart { part } => u128::from(part_size(store, set, *part, kept)),
+        Instr::RemovePart { part } => u128::from(part_size(store, set, *part, kept, trail)),
         Instr::RemoveMem { membrane } => 1 + u128::from(rules_of(store, set, *membrane)),
-        Instr::DropCells { membrane } => u128::from(rest_items(store, set, *membrane)),
+        Instr::DropCells { membrane } => u128::from(rest_items(store, set, *membrane, trail)),
         _ => 0,
     }
 }
@@ -138,6 +141,7 @@ fn items_left<S: LinkStore>(
     store: &mut S,
     set: &SetRegisters<S::Atom, S::Mem>,
     body: &Body<'_>,
+    trail: &mut Found<S::Atom>,
 ) -> u64
     requires valid { Valid (S.heap store.old) }
     requires unmarked { Unmarked (S.heap store.old) }
@@ -150,8 +154,8 @@ fn items_left<S: LinkStore>(
     let mut all_taken: u128 = 0;
     let mut kept: Option<Counted> = None;
     for i in 0..body.len() {
-        all_added += u128::from(added(store, set, body.at(i), &mut kept));
-        all_taken += taken(store, set, body.at(i), &mut kept);
+        all_added += u128::from(added(store, set, body.at(i), &mut kept, trail));
+        all_taken += taken(store, set, body.at(i), &mut kept, trail);
     }
     capped(store.items(), all_added, all_taken)
 }
@@ -182,6 +186,6 @@ impl<S: LinkStore> Machine<S> {
         ensures registers { self.new.set ≡ self.old.set }
         ensures left { (r : Registers) (n : ℕ) → Agrees S.atom_id S.mem_id self.old.set r.head → HasRests S.atom_id S.mem_id (S.heap self.old.store) self.old.set r → Leaves (S.heap self.old.store) r code.now.body n → result ≡ min n (2 ^ 64 - 1) }
     {
-        items_left(&mut self.store, &self.set, code.body())
+        items_left(&mut self.store, &self.set, code.body(), &mut self.trail)
     }
 }

@@ -7,6 +7,7 @@ ghost use Rattle.lmn_machine.specs.Jumping.{only_membrane};
 use crate::patience::Patience;
 use crate::reasons::Reasons;
 use crate::{enough, jump, search};
+use lmn_ground::Found;
 use lmn_instr_pool::Instrs;
 use lmn_machine_registers::SetRegisters;
 use lmn_store_trait::LinkStore;
@@ -19,6 +20,7 @@ pub(crate) fn find<S: LinkStore>(
     membrane: S::Mem,
     set: &mut SetRegisters<S::Atom, S::Mem>,
     reasons: &mut Reasons,
+    trail: &mut Found<S::Atom>,
 ) -> bool
     requires valid { Valid (S.heap store.old) }
     requires unmarked { Unmarked (S.heap store.old) }
@@ -30,13 +32,13 @@ pub(crate) fn find<S: LinkStore>(
     let mut patience = Patience::new();
     set.clear();
     set.membranes.push(membrane);
-    if search::begin(store, code, 0, set, &mut patience) {
+    if search::begin(store, code, 0, set, &mut patience, trail) {
         return true;
     }
     if !patience.is_gone() {
         return false;
     }
-    find_anew(store, code, membrane, set, reasons)
+    find_anew(store, code, membrane, set, reasons, trail)
 }
 
 /// Looks for it by the search that jumps back.
@@ -46,6 +48,7 @@ fn find_anew<S: LinkStore>(
     membrane: S::Mem,
     set: &mut SetRegisters<S::Atom, S::Mem>,
     reasons: &mut Reasons,
+    trail: &mut Found<S::Atom>,
 ) -> bool
     requires valid { Valid (S.heap store.old) }
     requires unmarked { Unmarked (S.heap store.old) }
@@ -60,5 +63,5 @@ fn find_anew<S: LinkStore>(
         return false;
     }
     reasons.work_out(code);
-    jump::search(store, code, reasons, 0, set).is_ok()
+    jump::search(store, code, reasons, 0, set, trail).is_ok()
 }

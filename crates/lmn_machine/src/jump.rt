@@ -12,6 +12,7 @@ use crate::reasons::Reasons;
 use crate::steps::Outcome;
 use crate::{alone, enough, hanging, steps};
 use lmn_base::Functor;
+use lmn_ground::Found;
 use lmn_instr_code::{AtomPort, Instr};
 use lmn_instr_pool::Instrs;
 use lmn_machine_registers::SetRegisters;
@@ -26,6 +27,7 @@ pub fn search<S: LinkStore>(
     reasons: &Reasons,
     at: usize,
     set: &mut SetRegisters<S::Atom, S::Mem>,
+    trail: &mut Found<S::Atom>,
 ) -> Result<(), Choices>
     requires valid { Valid (S.heap store.old) }
     requires unmarked { Unmarked (S.heap store.old) }
@@ -38,11 +40,13 @@ pub fn search<S: LinkStore>(
 {
     for i in at..code.len() {
         let instr = code.at(i);
-        match steps::step(store, set, instr) {
+        match steps::step(store, set, instr, trail) {
             Outcome::Holds => {}
             Outcome::Fails => return Err(reasons.read_by(instr)),
-            Outcome::ChoosesAtom => return choose_atom(store, code, reasons, i, instr, set),
-            Outcome::ChoosesMembrane => return choose_membrane(store, code, reasons, i, instr, set),
+            Outcome::ChoosesAtom => return choose_atom(store, code, reasons, i, instr, set, trail),
+            Outcome::ChoosesMembrane => return choose_membrane(
+                store, code, reasons, i, instr, set, trail,
+            ),
         }
     }
     Ok(())
@@ -57,6 +61,7 @@ fn choose_atom<S: LinkStore>(
     at: usize,
     instr: &Instr,
     set: &mut SetRegisters<S::Atom, S::Mem>,
+    trail: &mut Found<S::Atom>,
 ) -> Result<(), Choices>
     requires valid { Valid (S.heap store.old) }
     requires unmarked { Unmarked (S.heap store.old) }
@@ -75,7 +80,9 @@ fn choose_atom<S: LinkStore>(
             ..
         } => {
             let place = set.membranes.at(*membrane as usize);
-            search_atoms(store, code, reasons, at, *membrane, place, *functor, set)
+            search_atoms(
+                store, code, reasons, at, *membrane, place, *functor, set, trail,
+            )
         }
         _ => Err(Choices::All),
     }
@@ -91,6 +98,7 @@ fn choose_membrane<S: LinkStore>(
     at: usize,
     instr: &Instr,
     set: &mut SetRegisters<S::Atom, S::Mem>,
+    trail: &mut Found<S::Atom>,
 ) -> Result<(), Choices>
     requires valid { Valid (S.heap store.old) }
     requires unmarked { Unmarked (S.heap store.old) }
@@ -108,8 +116,10 @@ fn choose_membrane<S: LinkStore>(
             let place = set.membranes.at(*inside as usize);
             let (atoms, membranes) = (set.atoms.len(), set.membranes.len());
             match hanging::hangs_by(code, at + 1, membranes, atoms) {
-                Some(port) => search_home(store, code, reasons, at, *inside, place, port, set),
-                None => try_membranes(store, code, reasons, at, *inside, place, set),
+                Some(port) => search_home(
+                    store, code, reasons, at, *inside, place, port, set, trail,
+                ),
+                None => try_membranes(store, code, reasons, at, *inside, place, set, trail),
             }
         }
         _ => Err(Choices::All),
@@ -127,6 +137,7 @@ fn search_atoms<S: LinkStore>(
     place: S::Mem,
     functor: Functor,
     set: &mut SetRegisters<S::Atom, S::Mem>,
+    trail: &mut Found<S::Atom>,
 ) -> Result<(), Choices>
     requires valid { Valid (S.heap store.old) }
     requires unmarked { Unmarked (S.heap store.old) }
@@ -142,7 +153,7 @@ fn search_atoms<S: LinkStore>(
     let mut named = reasons.of_membrane(inside as usize);
     let mut candidate = store.first_with(place, functor);
     while let Some(atom) = candidate {
-        match try_atom(store, code, reasons, at, atom, set) {
+        match try_atom(store, code, reasons, at, atom, set, trail) {
             Ok(()) => return Ok(()),
             Err(failed) => {
                 if !own.is_within(failed) {
@@ -165,6 +176,7 @@ fn try_atom<S: LinkStore>(
     at: usize,
     atom: S::Atom,
     set: &mut SetRegisters<S::Atom, S::Mem>,
+    trail: &mut Found<S::Atom>,
 ) -> Result<(), Choices>
     requires valid { Valid (S.heap store.old) }
     requires unmarked { Unmarked (S.heap store.old) }
@@ -183,7 +195,7 @@ fn try_atom<S: LinkStore>(
         return Err(reasons.of_atom(atoms));
     }
     set.atoms.push(atom);
-    match search(store, code, reasons, rest, set) {
+    match search(store, code, reasons, rest, set, trail) {
         Ok(()) => Ok(()),
         Err(failed) => {
             set.keep(atoms, membranes, parts, integers);
@@ -203,6 +215,7 @@ fn search_home<S: LinkStore>(
     place: S::Mem,
     port: AtomPort,
     set: &mut SetRegisters<S::Atom, S::Mem>,
+    trail: &mut Found<S::Atom>,
 ) -> Result<(), Choices>
     requires valid { Valid (S.heap store.old) }
     requires unmarked { Unmarked (S.heap store.old) }
@@ -219,7 +232,7 @@ fn search_home<S: LinkStore>(
     let from = set.atoms.at(port.atom as usize);
     let named = reasons.of_both(port.atom, inside);
     match hanging::home_behind(store, from, port.port, place) {
-        Some(membrane) => match try_membrane(store, code, reasons, at, membrane, set) {
+        Some(membrane) => match try_membrane(store, code, reasons, at, membrane, set, trail) {
             Ok(()) => Ok(()),
             Err(failed) => Err(named.with(failed)),
         },
@@ -237,6 +250,7 @@ fn try_membranes<S: LinkStore>(
     inside: u16,
     place: S::Mem,
     set: &mut SetRegisters<S::Atom, S::Mem>,
+    trail: &mut Found<S::Atom>,
 ) -> Result<(), Choices>
     requires valid { Valid (S.heap store.old) }
     requires unmarked { Unmarked (S.heap store.old) }
@@ -252,7 +266,7 @@ fn try_membranes<S: LinkStore>(
     let mut named = reasons.of_membrane(inside as usize);
     let mut candidate = store.first_mem(place);
     while let Some(membrane) = candidate {
-        match try_membrane(store, code, reasons, at, membrane, set) {
+        match try_membrane(store, code, reasons, at, membrane, set, trail) {
             Ok(()) => return Ok(()),
             Err(failed) => {
                 if !own.is_within(failed) {
@@ -275,6 +289,7 @@ fn try_membrane<S: LinkStore>(
     at: usize,
     membrane: S::Mem,
     set: &mut SetRegisters<S::Atom, S::Mem>,
+    trail: &mut Found<S::Atom>,
 ) -> Result<(), Choices>
     requires valid { Valid (S.heap store.old) }
     requires unmarked { Unmarked (S.heap store.old) }
@@ -293,7 +308,7 @@ fn try_membrane<S: LinkStore>(
         return Err(reasons.of_membrane(membranes));
     }
     set.membranes.push(membrane);
-    match search(store, code, reasons, rest, set) {
+    match search(store, code, reasons, rest, set, trail) {
         Ok(()) => Ok(()),
         Err(failed) => {
             set.keep(atoms, membranes, parts, integers);

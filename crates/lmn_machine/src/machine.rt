@@ -13,6 +13,7 @@ use crate::counting::Steps;
 use crate::finding;
 use crate::reasons::Reasons;
 use lmn_base::NoMemory;
+use lmn_ground::Found;
 use lmn_instr_pool::CodeView;
 use lmn_machine_commit::{commit, prepare};
 use lmn_machine_registers::SetRegisters;
@@ -20,10 +21,14 @@ use lmn_store_trait::LinkStore;
 use std::alloc::Global;
 use std::sync::ledger::Ledger;
 
+/// How many atoms of a part the room of walks holds.
+const WALK_ROOM: usize = 4096;
+
 /// A store, and the registers that hold the match that was found last.
 pub struct Machine<S: LinkStore> {
     pub(crate) store: S,
     pub(crate) set: SetRegisters<S::Atom, S::Mem>,
+    pub(crate) trail: Found<S::Atom>,
     reasons: Reasons,
 }
 
@@ -33,21 +38,24 @@ impl<S: LinkStore + Drop> Drop for Machine<S> {
         let Machine {
             store: _,
             set: _,
+            trail: _,
             reasons: _,
         } = self;
     }
 }
 
 impl<S: LinkStore + Drop> Machine<S> {
-    /// A machine over a store. It takes the memory of all registers.
+    /// A machine over a store. It takes the memory of all registers, and room for walks.
     pub fn new(alloc: Global, store: S) -> Result<Machine<S>, NoMemory>
         ensures { IfOk result (λ m. m.store ≡ store) }
     {
         let set = SetRegisters::new(alloc)?;
+        let trail = Found::with_room(alloc, WALK_ROOM)?;
         let reasons = Reasons::new(alloc)?;
         Ok(Machine {
             store,
             set,
+            trail,
             reasons,
         })
     }
@@ -76,6 +84,7 @@ impl<S: LinkStore> Machine<S> {
         let Machine {
             store,
             set: _,
+            trail: _,
             reasons: _,
         } = self;
         store
@@ -114,6 +123,7 @@ impl<S: LinkStore> Machine<S> {
             membrane,
             &mut self.set,
             &mut self.reasons,
+            &mut self.trail,
         )
     }
 
@@ -129,7 +139,13 @@ impl<S: LinkStore> Machine<S> {
         ensures unmarked { Unmarked (S.heap self.new.store) }
     {
         let _root = self.store.root();
-        prepare(alloc, &mut self.store, code.body(), &mut self.set)
+        prepare(
+            alloc,
+            &mut self.store,
+            code.body(),
+            &mut self.set,
+            &mut self.trail,
+        )
     }
 
     /// Does what the body of a code does, after it was prepared: the rule is fired. What the code rouses is awake then, with all
@@ -141,6 +157,6 @@ impl<S: LinkStore> Machine<S> {
         ensures unmarked { Unmarked (S.heap self.new.store) }
         ensures registers { self.new.set ≡ self.old.set }
     {
-        commit(&mut self.store, code.body(), &self.set);
+        commit(&mut self.store, code.body(), &self.set, &mut self.trail);
     }
 }

@@ -7,7 +7,7 @@ ghost use Rattle.lmn_machine_registers.specs.Agreeing.{Agrees};
 ghost use Rattle.lmn_machine.specs.Searching.{AreHeldWhole};
 
 use crate::checks;
-use lmn_ground::{is_same_port, size_of};
+use lmn_ground::{Found, is_same_port, size_of};
 use lmn_machine_registers::{SetRegisters, Stack};
 use lmn_store_trait::LinkStore;
 
@@ -41,6 +41,7 @@ fn atoms_more<S: LinkStore>(
     m: S::Mem,
     listed: &[u16],
     i: usize,
+    trail: &mut Found<S::Atom>,
 ) -> u64
     requires unmarked { Unmarked (S.heap store.old) }
     requires membrane { IsMem (S.heap store.old) (S.mem_id m) }
@@ -59,7 +60,7 @@ fn atoms_more<S: LinkStore>(
     if is_listed(store, &set.parts, listed, i, part) {
         return 0;
     }
-    size_of(store, part)
+    size_of(store, part, trail)
 }
 
 /// The number of atoms of a membrane that are in none of the listed parts.
@@ -71,6 +72,7 @@ fn atoms_besides<S: LinkStore>(
     set: &SetRegisters<S::Atom, S::Mem>,
     m: S::Mem,
     listed: &[u16],
+    trail: &mut Found<S::Atom>,
 ) -> u64
     requires unmarked { Unmarked (S.heap store.old) }
     requires membrane { IsMem (S.heap store.old) (S.mem_id m) }
@@ -82,7 +84,7 @@ fn atoms_besides<S: LinkStore>(
     let _root = store.root();
     let mut left = store.atoms(m);
     for i in 0..listed.len() {
-        left -= atoms_more(store, set, m, listed, i);
+        left -= atoms_more(store, set, m, listed, i, trail);
     }
     left
 }
@@ -94,6 +96,7 @@ pub fn has_others<S: LinkStore>(
     m: S::Mem,
     listed: &[u16],
     count: u64,
+    trail: &mut Found<S::Atom>,
 ) -> bool
     requires unmarked { Unmarked (S.heap store.old) }
     requires membrane { IsMem (S.heap store.old) (S.mem_id m) }
@@ -102,5 +105,5 @@ pub fn has_others<S: LinkStore>(
     ensures same { S.heap store.new ≡ S.heap store.old }
     ensures others { (s : HeadRegisters) → Agrees S.atom_id S.mem_id set.now s → (IsTrue result ↔ HasOthers (IsInSome (S.heap store.old) s listed.now) count (atoms_in (S.heap store.old) (S.mem_id m))) }
 {
-    atoms_besides(store, set, m, listed) == count
+    atoms_besides(store, set, m, listed, trail) == count
 }

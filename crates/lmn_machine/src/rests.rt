@@ -13,7 +13,7 @@ ghost use Rattle.lmn_machine_commit.specs.Registers.{HasRests};
 ghost use Rattle.lmn_machine.specs.Searching.{AreHeldWhole, AreRootPorts};
 
 use crate::whole::mark_all;
-use lmn_ground::{MATCHED, closed, items_left, paint};
+use lmn_ground::{Found, MATCHED, closed, items_left, paint};
 use lmn_machine_commit::mark_taken;
 use lmn_machine_registers::SetRegisters;
 use lmn_store_trait::LinkStore;
@@ -24,6 +24,7 @@ fn paint_parts<S: LinkStore>(
     set: &SetRegisters<S::Atom, S::Mem>,
     listed: &[u16],
     mark: u64,
+    trail: &mut Found<S::Atom>,
 )
     requires marked { (h : Heap) × (marks : ℕ → ℕ) × Unmarked h × (S.heap store.old ≡ own_painted h marks) }
     requires full { (a i : ℕ) → i < arity_of (S.heap store.old) a → IsSome (link_of (S.heap store.old) a i) }
@@ -33,7 +34,7 @@ fn paint_parts<S: LinkStore>(
     ensures { (all : List ℕ) × ((s : HeadRegisters) → Agrees S.atom_id S.mem_id set.now s → (a : ℕ) → In a all ↔ IsInSome (S.heap store.old) s listed.now a) × (S.heap store.new ≡ own_marked mark all (S.heap store.old)) }
 {
     for i in 0..listed.len() {
-        paint(store, set.parts.at(listed[i] as usize), mark);
+        paint(store, set.parts.at(listed[i] as usize), mark, trail);
     }
 }
 
@@ -44,6 +45,7 @@ pub fn is_closed<S: LinkStore>(
     set: &SetRegisters<S::Atom, S::Mem>,
     m: S::Mem,
     listed: &[u16],
+    trail: &mut Found<S::Atom>,
 ) -> bool
     requires valid { Valid (S.heap store.old) }
     requires unmarked { Unmarked (S.heap store.old) }
@@ -56,9 +58,9 @@ pub fn is_closed<S: LinkStore>(
 {
     let _root = store.root();
     mark_all(store, &set.atoms, MATCHED);
-    paint_parts(store, set, listed, MATCHED);
+    paint_parts(store, set, listed, MATCHED, trail);
     let stays = closed(store, m, set.membranes.as_slice());
-    paint_parts(store, set, listed, 0);
+    paint_parts(store, set, listed, 0, trail);
     mark_all(store, &set.atoms, 0);
     stays
 }
@@ -69,6 +71,7 @@ pub fn rest_items<S: LinkStore>(
     store: &mut S,
     set: &SetRegisters<S::Atom, S::Mem>,
     membrane: u16,
+    trail: &mut Found<S::Atom>,
 ) -> u64
     requires valid { Valid (S.heap store.old) }
     requires unmarked { Unmarked (S.heap store.old) }
@@ -80,8 +83,8 @@ pub fn rest_items<S: LinkStore>(
 {
     let _root = store.root();
     let place = set.membranes.at(membrane as usize);
-    mark_taken(store, set, place, MATCHED);
+    mark_taken(store, set, place, MATCHED, trail);
     let items = items_left(store, place, set.membranes.as_slice());
-    mark_taken(store, set, place, 0);
+    mark_taken(store, set, place, 0, trail);
     items
 }

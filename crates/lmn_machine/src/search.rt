@@ -13,6 +13,7 @@ use crate::patience::Patience;
 use crate::steps::Outcome;
 use crate::{ahead, steps};
 use lmn_base::Functor;
+use lmn_ground::Found;
 use lmn_instr_code::Instr;
 use lmn_instr_pool::Instrs;
 use lmn_machine_registers::SetRegisters;
@@ -28,6 +29,7 @@ pub fn begin<S: LinkStore>(
     at: usize,
     set: &mut SetRegisters<S::Atom, S::Mem>,
     patience: &mut Patience,
+    trail: &mut Found<S::Atom>,
 ) -> bool
     requires valid { Valid (S.heap store.old) }
     requires unmarked { Unmarked (S.heap store.old) }
@@ -40,10 +42,10 @@ pub fn begin<S: LinkStore>(
     if at < code.len() {
         let first = code.at(at);
         if let Instr::FindAtom { .. } = first {
-            return choose_atom(store, code, at, first, set, patience);
+            return choose_atom(store, code, at, first, set, patience, trail);
         }
     }
-    search(store, code, at, set, patience)
+    search(store, code, at, set, patience, trail)
 }
 
 /// Runs code from an instruction on, and tries the candidates of its first choice in order. Where patience is gone, it gives up.
@@ -54,6 +56,7 @@ fn search<S: LinkStore>(
     at: usize,
     set: &mut SetRegisters<S::Atom, S::Mem>,
     patience: &mut Patience,
+    trail: &mut Found<S::Atom>,
 ) -> bool
     requires valid { Valid (S.heap store.old) }
     requires unmarked { Unmarked (S.heap store.old) }
@@ -65,12 +68,12 @@ fn search<S: LinkStore>(
 {
     for i in at..code.len() {
         let instr = code.at(i);
-        match steps::step(store, set, instr) {
+        match steps::step(store, set, instr, trail) {
             Outcome::Holds => {}
             Outcome::Fails => return false,
-            Outcome::ChoosesAtom => return choose_atom(store, code, i, instr, set, patience),
+            Outcome::ChoosesAtom => return choose_atom(store, code, i, instr, set, patience, trail),
             Outcome::ChoosesMembrane => return choose_membrane(
-                store, code, i, instr, set, patience,
+                store, code, i, instr, set, patience, trail,
             ),
         }
     }
@@ -87,6 +90,7 @@ fn choose_atom<S: LinkStore>(
     instr: &Instr,
     set: &mut SetRegisters<S::Atom, S::Mem>,
     patience: &mut Patience,
+    trail: &mut Found<S::Atom>,
 ) -> bool
     requires valid { Valid (S.heap store.old) }
     requires unmarked { Unmarked (S.heap store.old) }
@@ -105,7 +109,9 @@ fn choose_atom<S: LinkStore>(
         } => {
             let place = set.membranes.at(*membrane as usize);
             match store.first_with(place, *functor) {
-                Some(first) => search_atoms(store, code, at, place, first, *functor, set, patience),
+                Some(first) => search_atoms(
+                    store, code, at, place, first, *functor, set, patience, trail,
+                ),
                 None => false,
             }
         }
@@ -123,6 +129,7 @@ fn choose_membrane<S: LinkStore>(
     instr: &Instr,
     set: &mut SetRegisters<S::Atom, S::Mem>,
     patience: &mut Patience,
+    trail: &mut Found<S::Atom>,
 ) -> bool
     requires valid { Valid (S.heap store.old) }
     requires unmarked { Unmarked (S.heap store.old) }
@@ -139,8 +146,8 @@ fn choose_membrane<S: LinkStore>(
             let place = set.membranes.at(*inside as usize);
             let register = set.membranes.len();
             match ahead::guest(store, code, at + 1, register, set) {
-                Some(guest) => search_home(store, code, at, place, guest, set, patience),
-                None => search_membranes(store, code, at, place, set, patience),
+                Some(guest) => search_home(store, code, at, place, guest, set, patience, trail),
+                None => search_membranes(store, code, at, place, set, patience, trail),
             }
         }
         _ => false,
@@ -159,6 +166,7 @@ fn search_atoms<S: LinkStore>(
     functor: Functor,
     set: &mut SetRegisters<S::Atom, S::Mem>,
     patience: &mut Patience,
+    trail: &mut Found<S::Atom>,
 ) -> bool
     requires valid { Valid (S.heap store.old) }
     requires unmarked { Unmarked (S.heap store.old) }
@@ -179,7 +187,7 @@ fn search_atoms<S: LinkStore>(
     let mut ask = true;
     while let Some(atom) = candidate {
         set.atoms.push(atom);
-        if search(store, code, rest, set, patience) {
+        if search(store, code, rest, set, patience, trail) {
             return true;
         }
         if !patience.lasts() {
@@ -203,6 +211,7 @@ fn search_home<S: LinkStore>(
     guest: S::Atom,
     set: &mut SetRegisters<S::Atom, S::Mem>,
     patience: &mut Patience,
+    trail: &mut Found<S::Atom>,
 ) -> bool
     requires valid { Valid (S.heap store.old) }
     requires unmarked { Unmarked (S.heap store.old) }
@@ -221,7 +230,7 @@ fn search_home<S: LinkStore>(
             let (atoms, membranes) = (set.atoms.len(), set.membranes.len());
             let (parts, integers) = (set.parts.len(), set.integers.len());
             set.membranes.push(membrane);
-            if begin(store, code, rest, set, patience) {
+            if begin(store, code, rest, set, patience, trail) {
                 return true;
             }
             set.keep(atoms, membranes, parts, integers);
@@ -240,6 +249,7 @@ fn search_membranes<S: LinkStore>(
     place: S::Mem,
     set: &mut SetRegisters<S::Atom, S::Mem>,
     patience: &mut Patience,
+    trail: &mut Found<S::Atom>,
 ) -> bool
     requires valid { Valid (S.heap store.old) }
     requires unmarked { Unmarked (S.heap store.old) }
@@ -258,7 +268,7 @@ fn search_membranes<S: LinkStore>(
     let mut candidate = ahead::fitting_membrane(store, place, first, asked);
     while let Some(membrane) = candidate {
         set.membranes.push(membrane);
-        if begin(store, code, rest, set, patience) {
+        if begin(store, code, rest, set, patience, trail) {
             return true;
         }
         if !patience.lasts() {

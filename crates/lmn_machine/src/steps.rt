@@ -8,6 +8,7 @@ ghost use Rattle.lmn_machine.specs.Outcomes.{CanStep, ComparesIntegers, Computes
 ghost use Rattle.lmn_instr_code.specs.declared.instr.Instr.TheVariants.{Deref};
 
 use crate::{checks, integers, others, parts, rests, whole};
+use lmn_ground::Found;
 use lmn_instr_code::{AtomPort, Instr};
 use lmn_machine_registers::{ROOM, SetRegisters};
 use lmn_store_trait::LinkStore;
@@ -251,6 +252,7 @@ fn find_part<S: LinkStore>(
     store: &mut S,
     set: &mut SetRegisters<S::Atom, S::Mem>,
     instr: &Instr,
+    trail: &mut Found<S::Atom>,
 ) -> Outcome
     requires ready { CanStep S.atom_id S.mem_id (S.heap store.old) set.old instr.now }
     requires finds { FindsPart instr.now }
@@ -274,7 +276,7 @@ fn find_part<S: LinkStore>(
         Instr::IsGround { port, membrane, .. } => {
             let from = set.atoms.at(port.atom as usize);
             let place = set.membranes.at(*membrane as usize);
-            let root = whole::whole_end(store, from, port.port, place, &set.atoms);
+            let root = whole::whole_end(store, from, port.port, place, &set.atoms, trail);
             outcome_of(set_part(set, root))
         }
         _ => Outcome::Fails,
@@ -287,13 +289,14 @@ fn find_part_apart<S: LinkStore>(
     store: &mut S,
     set: &mut SetRegisters<S::Atom, S::Mem>,
     instr: &Instr,
+    trail: &mut Found<S::Atom>,
 ) -> Outcome
     requires ready { CanStep S.atom_id S.mem_id (S.heap store.old) set.old instr.now }
     requires finds { FindsPart instr.now }
     ensures same { S.heap store.new ≡ S.heap store.old }
     ensures stepped { HasOutcome S.atom_id S.mem_id (S.heap store.old) set.old set.new result instr.now }
 {
-    find_part(store, set, instr)
+    find_part(store, set, instr, trail)
 }
 
 /// Runs an instruction that reads typed contexts which are set.
@@ -302,6 +305,7 @@ fn read_parts<S: LinkStore>(
     store: &mut S,
     set: &mut SetRegisters<S::Atom, S::Mem>,
     instr: &Instr,
+    trail: &mut Found<S::Atom>,
 ) -> Outcome
     requires ready { CanStep S.atom_id S.mem_id (S.heap store.old) set.old instr.now }
     requires reads { ReadsParts instr.now }
@@ -312,12 +316,12 @@ fn read_parts<S: LinkStore>(
         Instr::EqGround { part, other } => {
             let root = set.parts.at(*part as usize);
             let other_root = set.parts.at(*other as usize);
-            outcome_of(whole::are_equal(store, root, other_root))
+            outcome_of(whole::are_equal(store, root, other_root, trail))
         }
         Instr::NeqGround { part, other } => {
             let root = set.parts.at(*part as usize);
             let other_root = set.parts.at(*other as usize);
-            outcome_of(whole::are_different(store, root, other_root))
+            outcome_of(whole::are_different(store, root, other_root, trail))
         }
         Instr::NAtoms {
             membrane,
@@ -325,11 +329,11 @@ fn read_parts<S: LinkStore>(
             parts,
         } => {
             let place = set.membranes.at(*membrane as usize);
-            outcome_of(others::has_others(store, set, place, parts.as_slice(), *count))
+            outcome_of(others::has_others(store, set, place, parts.as_slice(), *count, trail))
         }
         Instr::IsClosed { membrane, parts } => {
             let place = set.membranes.at(*membrane as usize);
-            outcome_of(rests::is_closed(store, set, place, parts.as_slice()))
+            outcome_of(rests::is_closed(store, set, place, parts.as_slice(), trail))
         }
         Instr::GetInt { part, .. } => {
             let root = set.parts.at(*part as usize);
@@ -346,13 +350,14 @@ fn read_parts_apart<S: LinkStore>(
     store: &mut S,
     set: &mut SetRegisters<S::Atom, S::Mem>,
     instr: &Instr,
+    trail: &mut Found<S::Atom>,
 ) -> Outcome
     requires ready { CanStep S.atom_id S.mem_id (S.heap store.old) set.old instr.now }
     requires reads { ReadsParts instr.now }
     ensures same { S.heap store.new ≡ S.heap store.old }
     ensures stepped { HasOutcome S.atom_id S.mem_id (S.heap store.old) set.old set.new result instr.now }
 {
-    read_parts(store, set, instr)
+    read_parts(store, set, instr, trail)
 }
 
 /// Runs an instruction that sets an integer by a constant or by two that are set.
@@ -422,6 +427,7 @@ pub fn step<S: LinkStore>(
     store: &mut S,
     set: &mut SetRegisters<S::Atom, S::Mem>,
     instr: &Instr,
+    trail: &mut Found<S::Atom>,
 ) -> Outcome
     requires { CanStep S.atom_id S.mem_id (S.heap store.old) set.old instr.now }
     ensures same { S.heap store.new ≡ S.heap store.old }
@@ -433,14 +439,14 @@ pub fn step<S: LinkStore>(
         Instr::Deref { from, port, .. } => outcome_of(follow(store, set, *from, *port)),
         // Each of these is an arm of its own, so that one jump leads to what it does. What most heads ask is a part of `step`, and all
         // else is called: `step` is to be small enough to be a part of both searches.
-        Instr::IsInt { .. } => find_part(store, set, instr),
-        Instr::IsUnary { .. } => find_part_apart(store, set, instr),
-        Instr::IsGround { .. } => find_part_apart(store, set, instr),
-        Instr::EqGround { .. } => read_parts_apart(store, set, instr),
-        Instr::NeqGround { .. } => read_parts_apart(store, set, instr),
-        Instr::NAtoms { .. } => read_parts_apart(store, set, instr),
-        Instr::IsClosed { .. } => read_parts_apart(store, set, instr),
-        Instr::GetInt { .. } => read_parts(store, set, instr),
+        Instr::IsInt { .. } => find_part(store, set, instr, trail),
+        Instr::IsUnary { .. } => find_part_apart(store, set, instr, trail),
+        Instr::IsGround { .. } => find_part_apart(store, set, instr, trail),
+        Instr::EqGround { .. } => read_parts_apart(store, set, instr, trail),
+        Instr::NeqGround { .. } => read_parts_apart(store, set, instr, trail),
+        Instr::NAtoms { .. } => read_parts_apart(store, set, instr, trail),
+        Instr::IsClosed { .. } => read_parts_apart(store, set, instr, trail),
+        Instr::GetInt { .. } => read_parts(store, set, instr, trail),
         Instr::Const { .. } => compute(set, instr),
         Instr::Add { .. } => compute(set, instr),
         Instr::Sub { .. } => compute_apart(set, instr),

@@ -9,7 +9,7 @@ ghost use Rattle.lmn_machine.specs.Outcomes.{IsEndWith};
 ghost use Rattle.lmn_machine_commit.specs.Registers.{AreAtomHandles};
 
 use crate::checks;
-use lmn_ground::{MATCHED, equal, is_ground};
+use lmn_ground::{Found, MATCHED, equal, is_ground};
 use lmn_machine_commit::set_own;
 use lmn_machine_registers::Stack;
 use lmn_store_trait::LinkStore;
@@ -32,6 +32,7 @@ fn is_whole<S: LinkStore>(
     root: (S::Atom, u8),
     m: S::Mem,
     atoms: &Stack<S::Atom>,
+    trail: &mut Found<S::Atom>,
 ) -> bool
     requires unmarked { Unmarked (S.heap store.old) }
     requires atom { IsAtom (S.heap store.old) (S.atom_id root.0) }
@@ -43,7 +44,7 @@ fn is_whole<S: LinkStore>(
 {
     let _root = store.root();
     mark_all(store, atoms, MATCHED);
-    let whole = is_ground(store, root, m);
+    let whole = is_ground(store, root, m, trail);
     mark_all(store, atoms, 0);
     whole
 }
@@ -55,6 +56,7 @@ pub fn whole_end<S: LinkStore>(
     port: u8,
     m: S::Mem,
     atoms: &Stack<S::Atom>,
+    trail: &mut Found<S::Atom>,
 ) -> Option<(S::Atom, u8)>
     requires unmarked { Unmarked (S.heap store.old) }
     requires atom { IsAtom (S.heap store.old) (S.atom_id from) }
@@ -65,7 +67,7 @@ pub fn whole_end<S: LinkStore>(
 {
     match checks::end(store, from, port) {
         Some(root) => {
-            if is_whole(store, root, m, atoms) {
+            if is_whole(store, root, m, atoms, trail) {
                 Some(root)
             } else {
                 None
@@ -76,7 +78,12 @@ pub fn whole_end<S: LinkStore>(
 }
 
 /// Whether two parts that were found are equal as rooted graphs.
-pub fn are_equal<S: LinkStore>(store: &mut S, x: (S::Atom, u8), y: (S::Atom, u8)) -> bool
+pub fn are_equal<S: LinkStore>(
+    store: &mut S,
+    x: (S::Atom, u8),
+    y: (S::Atom, u8),
+    trail: &mut Found<S::Atom>,
+) -> bool
     requires unmarked { Unmarked (S.heap store.old) }
     requires x { IsAtom (S.heap store.old) (S.atom_id x.0) }
     requires y { IsAtom (S.heap store.old) (S.atom_id y.0) }
@@ -85,11 +92,16 @@ pub fn are_equal<S: LinkStore>(store: &mut S, x: (S::Atom, u8), y: (S::Atom, u8)
     ensures equal { IsTrue result ↔ SameGraph (atom_map (S.heap store.old)) (S.atom_id x.0, x.1) (atom_map (S.heap store.old)) (S.atom_id y.0, y.1) }
 {
     let _root = store.root();
-    equal(store, x, y)
+    equal(store, x, y, trail)
 }
 
 /// Whether two parts that were found differ as rooted graphs.
-pub fn are_different<S: LinkStore>(store: &mut S, x: (S::Atom, u8), y: (S::Atom, u8)) -> bool
+pub fn are_different<S: LinkStore>(
+    store: &mut S,
+    x: (S::Atom, u8),
+    y: (S::Atom, u8),
+    trail: &mut Found<S::Atom>,
+) -> bool
     requires unmarked { Unmarked (S.heap store.old) }
     requires x { IsAtom (S.heap store.old) (S.atom_id x.0) }
     requires y { IsAtom (S.heap store.old) (S.atom_id y.0) }
@@ -97,5 +109,5 @@ pub fn are_different<S: LinkStore>(store: &mut S, x: (S::Atom, u8), y: (S::Atom,
     ensures same { S.heap store.new ≡ S.heap store.old }
     ensures different { IsTrue result ↔ (SameGraph (atom_map (S.heap store.old)) (S.atom_id x.0, x.1) (atom_map (S.heap store.old)) (S.atom_id y.0, y.1) → ⊥) }
 {
-    !are_equal(store, x, y)
+    !are_equal(store, x, y, trail)
 }
