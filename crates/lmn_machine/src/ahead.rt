@@ -104,10 +104,11 @@ fn may_lead<S: LinkStore>(
             if entered != port {
                 return false;
             }
-            if is_refuted(store, code, at, register as usize, b, set) {
+            // The home is looked at first, which costs less than the functor.
+            if is_refuted(store, code, at + 1, register as usize, b, set) {
                 return false;
             }
-            !is_refuted(store, code, at + 1, register as usize, b, set)
+            !is_refuted(store, code, at, register as usize, b, set)
         }
         None => false,
     }
@@ -165,6 +166,29 @@ pub fn fitting_atom<S: LinkStore>(
         candidate = store.next_with(a);
     }
     None
+}
+
+/// The candidate of the FINDATOM before a place that is tried first, where an atom is the first in a membrane with the functor. Where
+/// a head begins with the FINDATOM it is this atom, untested: most rules that have their first atom succeed with it.
+#[inline(always)]
+pub fn first_candidate<S: LinkStore>(
+    store: &S,
+    code: &Instrs<'_>,
+    at: usize,
+    place: S::Mem,
+    functor: Functor,
+    first: S::Atom,
+    set: &SetRegisters<S::Atom, S::Mem>,
+) -> Option<S::Atom>
+    requires held { AreHeldWhole S.atom_id S.mem_id (S.heap store.now) set.now }
+    requires functor { functor_of (S.heap store.now) (S.atom_id first) ≡ Some functor }
+    requires home { home_of (S.heap store.now) (S.atom_id first) ≡ Some (S.mem_id place) }
+    ensures { IsFitting S.atom_id S.mem_id (S.heap store.now) set.now (drop at code.now) functor (S.mem_id place) (Some first) result }
+{
+    if at == 1 {
+        return Some(first);
+    }
+    fitting_atom(store, code, at, place, functor, Some(first), set)
 }
 
 /// Whether an instruction looks for an atom in a membrane that is set and holds none with the functor.

@@ -45,11 +45,13 @@ pub fn begin<S: LinkStore>(
             return choose_atom(store, code, at, first, set, patience, trail);
         }
     }
-    search(store, code, at, set, patience, trail)
+    search_apart(store, code, at, set, patience, trail)
 }
 
 /// Runs code from an instruction on, and tries the candidates of its first choice in order. Where patience is gone, it gives up.
+/// It is a part of each function that tries candidates: one call leads from a choice to the next.
 #[cycle(search)]
+#[inline(always)]
 fn search<S: LinkStore>(
     store: &mut S,
     code: &Instrs<'_>,
@@ -71,13 +73,85 @@ fn search<S: LinkStore>(
         match steps::step(store, set, instr, trail) {
             Outcome::Holds => {}
             Outcome::Fails => return false,
-            Outcome::ChoosesAtom => return choose_atom(store, code, i, instr, set, patience, trail),
-            Outcome::ChoosesMembrane => return choose_membrane(
+            Outcome::ChoosesAtom => return choose_atom_apart(
+                store, code, i, instr, set, patience, trail,
+            ),
+            Outcome::ChoosesMembrane => return choose_membrane_apart(
                 store, code, i, instr, set, patience, trail,
             ),
         }
     }
     true
+}
+
+/// Runs code from an instruction on. It is no part of its caller.
+#[cycle(search)]
+#[inline(never)]
+fn search_apart<S: LinkStore>(
+    store: &mut S,
+    code: &Instrs<'_>,
+    at: usize,
+    set: &mut SetRegisters<S::Atom, S::Mem>,
+    patience: &mut Patience,
+    trail: &mut Found<S::Atom>,
+) -> bool
+    requires valid { Valid (S.heap store.old) }
+    requires unmarked { Unmarked (S.heap store.old) }
+    requires held { AreHeldWhole S.atom_id S.mem_id (S.heap store.old) set.old }
+    requires at { at ≤ length code.now }
+    requires order { HeadInOrder (length set.old.atoms) (length set.old.membranes) (length set.old.parts) (length set.old.integers) (drop at code.now) }
+    ensures same { S.heap store.new ≡ S.heap store.old }
+    ensures searched { Lasted patience.new.left S.atom_id S.mem_id (S.heap store.old) set.old set.new result (drop at code.now) }
+{
+    search(store, code, at, set, patience, trail)
+}
+
+/// Tries the candidates of a FINDATOM. It is no part of its caller.
+#[cycle(search)]
+#[inline(never)]
+fn choose_atom_apart<S: LinkStore>(
+    store: &mut S,
+    code: &Instrs<'_>,
+    at: usize,
+    instr: &Instr,
+    set: &mut SetRegisters<S::Atom, S::Mem>,
+    patience: &mut Patience,
+    trail: &mut Found<S::Atom>,
+) -> bool
+    requires valid { Valid (S.heap store.old) }
+    requires unmarked { Unmarked (S.heap store.old) }
+    requires held { AreHeldWhole S.atom_id S.mem_id (S.heap store.old) set.old }
+    requires at { slice_get code.now at ≡ Some instr.now }
+    requires choice { ChoosesAtoms instr.now }
+    requires order { HeadInOrder (length set.old.atoms) (length set.old.membranes) (length set.old.parts) (length set.old.integers) (drop at code.now) }
+    ensures same { S.heap store.new ≡ S.heap store.old }
+    ensures searched { Lasted patience.new.left S.atom_id S.mem_id (S.heap store.old) set.old set.new result (drop at code.now) }
+{
+    choose_atom(store, code, at, instr, set, patience, trail)
+}
+
+/// Tries the candidates of an ANYMEM. It is no part of its caller.
+#[cycle(search)]
+#[inline(never)]
+fn choose_membrane_apart<S: LinkStore>(
+    store: &mut S,
+    code: &Instrs<'_>,
+    at: usize,
+    instr: &Instr,
+    set: &mut SetRegisters<S::Atom, S::Mem>,
+    patience: &mut Patience,
+    trail: &mut Found<S::Atom>,
+) -> bool
+    requires valid { Valid (S.heap store.old) }
+    requires unmarked { Unmarked (S.heap store.old) }
+    requires held { AreHeldWhole S.atom_id S.mem_id (S.heap store.old) set.old }
+    requires at { slice_get code.now at ≡ Some instr.now }
+    requires choice { ChoosesMembranes instr.now }
+    requires order { HeadInOrder (length set.old.atoms) (length set.old.membranes) (length set.old.parts) (length set.old.integers) (drop at code.now) }
+    ensures same { S.heap store.new ≡ S.heap store.old }
+    ensures searched { Lasted patience.new.left S.atom_id S.mem_id (S.heap store.old) set.old set.new result (drop at code.now) }
+{
+    choose_membrane(store, code, at, instr, set, patience, trail)
 }
 
 /// Tries the candidates of a FINDATOM.
@@ -183,7 +257,7 @@ fn search_atoms<S: LinkStore>(
     let rest = at + 1;
     let (atoms, membranes) = (set.atoms.len(), set.membranes.len());
     let (parts, integers) = (set.parts.len(), set.integers.len());
-    let mut candidate = ahead::fitting_atom(store, code, rest, place, functor, Some(first), set);
+    let mut candidate = ahead::first_candidate(store, code, rest, place, functor, first, set);
     let mut ask = true;
     while let Some(atom) = candidate {
         set.atoms.push(atom);

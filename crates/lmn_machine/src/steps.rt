@@ -232,6 +232,34 @@ fn run_membrane_test<S: LinkStore>(
     outcome_of(check_membranes(store, set, instr))
 }
 
+/// Runs a test of atoms. It is no part of its caller.
+#[inline(never)]
+fn run_atom_test_apart<S: LinkStore>(
+    store: &S,
+    set: &SetRegisters<S::Atom, S::Mem>,
+    instr: &Instr,
+) -> Outcome
+    requires ready { CanStep S.atom_id S.mem_id (S.heap store.now) set.now instr.now }
+    requires tests { TestsAtoms instr.now }
+    ensures { HasOutcome S.atom_id S.mem_id (S.heap store.now) set.now set.now result instr.now }
+{
+    run_atom_test(store, set, instr)
+}
+
+/// Runs a test of membranes. It is no part of its caller.
+#[inline(never)]
+fn run_membrane_test_apart<S: LinkStore>(
+    store: &S,
+    set: &SetRegisters<S::Atom, S::Mem>,
+    instr: &Instr,
+) -> Outcome
+    requires ready { CanStep S.atom_id S.mem_id (S.heap store.now) set.now instr.now }
+    requires tests { TestsMembranes instr.now }
+    ensures { HasOutcome S.atom_id S.mem_id (S.heap store.now) set.now set.now result instr.now }
+{
+    run_membrane_test(store, set, instr)
+}
+
 /// Runs a comparison of integers, or COMMIT.
 #[inline(always)]
 fn run_comparison<S: LinkStore>(
@@ -456,11 +484,12 @@ pub fn step<S: LinkStore>(
         Instr::Func { .. } => run_atom_test(store, set, instr),
         Instr::InMem { .. } => run_atom_test(store, set, instr),
         Instr::NeqAtom { .. } => run_atom_test(store, set, instr),
-        Instr::Joined { .. } => run_atom_test(store, set, instr),
+        Instr::Joined { .. } => run_atom_test_apart(store, set, instr),
         Instr::NeqMem { .. } => run_membrane_test(store, set, instr),
-        Instr::NMems { .. } => run_membrane_test(store, set, instr),
+        Instr::NMems { .. } => run_membrane_test_apart(store, set, instr),
         Instr::NoRules { .. } => run_membrane_test(store, set, instr),
-        Instr::NotIn { .. } => run_membrane_test(store, set, instr),
+        Instr::NotIn { .. } => run_membrane_test_apart(store, set, instr),
+        Instr::Commit => Outcome::Holds,
         _ => run_comparison(store, set, instr),
     }
 }

@@ -27,8 +27,24 @@ pub begin-choose_atom-requires : goal.begin-choose_atom-requires
 begin-choose_atom-requires g t c κs within =
     (search rules, (search rules, (search rules, (search rules, (c.requires.valid, (c.requires.unmarked, (c.requires.held, (c.at-first.ensures, (subst ChoosesAtoms (sym c.in-FindAtom.is) tt, c.requires.order)))))))))
 
-pub search-choose_atom-requires : goal.search-choose_atom-requires
-search-choose_atom-requires g t c κs within = (
+pub choose_atom_apart-choose_atom-requires : goal.choose_atom_apart-choose_atom-requires
+choose_atom_apart-choose_atom-requires g t c κs within =
+    (search rules, (search rules, (search rules, (search rules, (c.requires.valid, (c.requires.unmarked, (c.requires.held, (c.requires.at, (c.requires.choice, c.requires.order)))))))))
+
+pub choose_membrane_apart-choose_membrane-requires : goal.choose_membrane_apart-choose_membrane-requires
+choose_membrane_apart-choose_membrane-requires g t c κs within =
+    (search rules, (search rules, (search rules, (search rules, (c.requires.valid, (c.requires.unmarked, (c.requires.held, (c.requires.at, (c.requires.choice, c.requires.order)))))))))
+
+pub search_apart-search-requires : goal.search_apart-search-requires
+search_apart-search-requires g t c κs within =
+    (search rules, (search rules, (search rules, (search rules, (c.requires.valid, (c.requires.unmarked, (c.requires.held, (c.requires.at, c.requires.order))))))))
+
+pub begin-search_apart-requires : goal.begin-search_apart-requires
+begin-search_apart-requires g t c κs within =
+    (search rules, (search rules, (search rules, (search rules, (c.requires.valid, (c.requires.unmarked, (c.requires.held, (c.requires.at, c.requires.order))))))))
+
+pub search-choose_atom_apart-requires : goal.search-choose_atom_apart-requires
+search-choose_atom_apart-requires g t c κs within = (
   search rules,
   (
     search rules,
@@ -58,8 +74,8 @@ search-choose_atom-requires g t c κs within = (
   ),
 )
 
-pub search-choose_membrane-requires : goal.search-choose_membrane-requires
-search-choose_membrane-requires g t c κs within = (
+pub search-choose_membrane_apart-requires : goal.search-choose_membrane_apart-requires
+search-choose_membrane_apart-requires g t c κs within = (
   search rules,
   (
     search rules,
@@ -91,17 +107,17 @@ search-choose_membrane-requires g t c κs within = (
 
 pub search-returns-in-ChoosesAtom-clause-searched : goal.search-returns-in-ChoosesAtom-clause-searched
 search-returns-in-ChoosesAtom-clause-searched g t c =
-    passed_lasted g.S.LinkStore.atom_id g.S.LinkStore.mem_id (g.S.LinkStore.heap c.args.store.now) _ c.args.set.now c.loop-i.set c.choose_atom.new.set (drop c.args.at c.args.code.now) (drop c.loop-i.i c.args.code.now)
-    c.choose_atom.result c.loop-i.invariant.passed
-    (subst (λ k. Lasted c.choose_atom.new.patience.left g.S.LinkStore.atom_id g.S.LinkStore.mem_id (g.S.LinkStore.heap c.args.store.now) k c.choose_atom.new.set c.choose_atom.result (drop c.loop-i.i c.args.code.now)) c.in-ChoosesAtom.ensures.stepped.0
-    (subst (λ h. Lasted c.choose_atom.new.patience.left g.S.LinkStore.atom_id g.S.LinkStore.mem_id h c.step.new.set c.choose_atom.new.set c.choose_atom.result (drop c.loop-i.i c.args.code.now)) (c.in-ChoosesAtom.ensures.same ∙ c.loop-i.invariant.same) c.choose_atom.ensures.searched))
+    passed_lasted g.S.LinkStore.atom_id g.S.LinkStore.mem_id (g.S.LinkStore.heap c.args.store.now) _ c.args.set.now c.loop-i.set c.choose_atom_apart.new.set (drop c.args.at c.args.code.now) (drop c.loop-i.i c.args.code.now)
+    c.choose_atom_apart.result c.loop-i.invariant.passed
+    (subst (λ k. Lasted c.choose_atom_apart.new.patience.left g.S.LinkStore.atom_id g.S.LinkStore.mem_id (g.S.LinkStore.heap c.args.store.now) k c.choose_atom_apart.new.set c.choose_atom_apart.result (drop c.loop-i.i c.args.code.now)) c.in-ChoosesAtom.ensures.stepped.0
+    (subst (λ h. Lasted c.choose_atom_apart.new.patience.left g.S.LinkStore.atom_id g.S.LinkStore.mem_id h c.step.new.set c.choose_atom_apart.new.set c.choose_atom_apart.result (drop c.loop-i.i c.args.code.now)) (c.in-ChoosesAtom.ensures.same ∙ c.loop-i.invariant.same) c.choose_atom_apart.ensures.searched))
 
 pub search-returns-in-ChoosesMembrane-clause-searched : goal.search-returns-in-ChoosesMembrane-clause-searched
 search-returns-in-ChoosesMembrane-clause-searched g t c =
-    passed_lasted g.S.LinkStore.atom_id g.S.LinkStore.mem_id (g.S.LinkStore.heap c.args.store.now) _ c.args.set.now c.loop-i.set c.choose_membrane.new.set (drop c.args.at c.args.code.now) (drop c.loop-i.i c.args.code.now)
-    c.choose_membrane.result c.loop-i.invariant.passed
-    (subst (λ k. Lasted c.choose_membrane.new.patience.left g.S.LinkStore.atom_id g.S.LinkStore.mem_id (g.S.LinkStore.heap c.args.store.now) k c.choose_membrane.new.set c.choose_membrane.result (drop c.loop-i.i c.args.code.now)) c.in-ChoosesMembrane.ensures.stepped.0
-    (subst (λ h. Lasted c.choose_membrane.new.patience.left g.S.LinkStore.atom_id g.S.LinkStore.mem_id h c.step.new.set c.choose_membrane.new.set c.choose_membrane.result (drop c.loop-i.i c.args.code.now)) (c.in-ChoosesMembrane.ensures.same ∙ c.loop-i.invariant.same) c.choose_membrane.ensures.searched))
+    passed_lasted g.S.LinkStore.atom_id g.S.LinkStore.mem_id (g.S.LinkStore.heap c.args.store.now) _ c.args.set.now c.loop-i.set c.choose_membrane_apart.new.set (drop c.args.at c.args.code.now) (drop c.loop-i.i c.args.code.now)
+    c.choose_membrane_apart.result c.loop-i.invariant.passed
+    (subst (λ k. Lasted c.choose_membrane_apart.new.patience.left g.S.LinkStore.atom_id g.S.LinkStore.mem_id (g.S.LinkStore.heap c.args.store.now) k c.choose_membrane_apart.new.set c.choose_membrane_apart.result (drop c.loop-i.i c.args.code.now)) c.in-ChoosesMembrane.ensures.stepped.0
+    (subst (λ h. Lasted c.choose_membrane_apart.new.patience.left g.S.LinkStore.atom_id g.S.LinkStore.mem_id h c.step.new.set c.choose_membrane_apart.new.set c.choose_membrane_apart.result (drop c.loop-i.i c.args.code.now)) (c.in-ChoosesMembrane.ensures.same ∙ c.loop-i.invariant.same) c.choose_membrane_apart.ensures.searched))
 
 pub search-returns-in-Fails-clause-searched : goal.search-returns-in-Fails-clause-searched
 search-returns-in-Fails-clause-searched g t c =
@@ -190,9 +206,9 @@ pub search_atoms-loop-candidate-init : goal.search_atoms-loop-candidate-init
 search_atoms-loop-candidate-init g t c = record {
   same = refl;
   set = refl;
-  left = atoms_fit g.S.LinkStore.atom_id g.S.LinkStore.mem_id (g.S.LinkStore.heap c.args.store.now) c.args.set.now (drop c.args.at c.args.code.now) (drop (c.args.at + 1) c.args.code.now) c.args.functor c.requires.at.0 c.args.place (Some c.args.first) c.fitting_atom-candidate.result (drop_get c.args.at c.args.code.now (FindAtom (length c.args.set.now.atoms) c.requires.at.0 c.args.functor) c.requires.at.1)
-      (atoms_first g.S.LinkStore.atom_id g.S.LinkStore.mem_id (g.S.LinkStore.heap c.args.store.now) c.args.set.now (drop c.args.at c.args.code.now) (drop (c.args.at + 1) c.args.code.now) c.args.functor c.requires.at.0 c.args.place (Some c.args.first) (drop_get c.args.at c.args.code.now (FindAtom (length c.args.set.now.atoms) c.requires.at.0 c.args.functor) c.requires.at.1) c.requires.at.2 c.requires.list) c.fitting_atom-candidate.ensures.left;
-  there = if_both (λ a. functor_of (g.S.LinkStore.heap c.args.store.now) (g.S.LinkStore.atom_id a) ≡ Some c.args.functor) (λ a. home_of (g.S.LinkStore.heap c.args.store.now) (g.S.LinkStore.atom_id a) ≡ Some (g.S.LinkStore.mem_id c.args.place)) c.fitting_atom-candidate.result c.fitting_atom-candidate.ensures.functor c.fitting_atom-candidate.ensures.home;
+  left = atoms_fit g.S.LinkStore.atom_id g.S.LinkStore.mem_id (g.S.LinkStore.heap c.args.store.now) c.args.set.now (drop c.args.at c.args.code.now) (drop (c.args.at + 1) c.args.code.now) c.args.functor c.requires.at.0 c.args.place (Some c.args.first) c.first_candidate-candidate.result (drop_get c.args.at c.args.code.now (FindAtom (length c.args.set.now.atoms) c.requires.at.0 c.args.functor) c.requires.at.1)
+      (atoms_first g.S.LinkStore.atom_id g.S.LinkStore.mem_id (g.S.LinkStore.heap c.args.store.now) c.args.set.now (drop c.args.at c.args.code.now) (drop (c.args.at + 1) c.args.code.now) c.args.functor c.requires.at.0 c.args.place (Some c.args.first) (drop_get c.args.at c.args.code.now (FindAtom (length c.args.set.now.atoms) c.requires.at.0 c.args.functor) c.requires.at.1) c.requires.at.2 c.requires.list) c.first_candidate-candidate.ensures.left;
+  there = if_both (λ a. functor_of (g.S.LinkStore.heap c.args.store.now) (g.S.LinkStore.atom_id a) ≡ Some c.args.functor) (λ a. home_of (g.S.LinkStore.heap c.args.store.now) (g.S.LinkStore.atom_id a) ≡ Some (g.S.LinkStore.mem_id c.args.place)) c.first_candidate-candidate.result c.first_candidate-candidate.ensures.functor c.first_candidate-candidate.ensures.home;
 }
 
 pub search_atoms-further_atom-candidate-requires-clause-held : goal.search_atoms-further_atom-candidate-requires-clause-held

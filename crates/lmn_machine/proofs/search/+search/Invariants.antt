@@ -8,26 +8,35 @@ use Rattle.lmn_machine.proofs.Stepping.{Passed}
 use Rattle.lmn_machine.proofs.Choosing.{AtomsLeft, MembranesLeft}
 use Rattle.lmn_machine.proofs.search.+search.Given as goal
 
-abbrev pub decreases-search : goal.decreases-search
-decreases-search g l = 4 * (length l.code.now - l.at) + 2
-
-abbrev pub decreases-begin : goal.decreases-begin
-decreases-begin g l = 4 * (length l.code.now - l.at) + 3
-
-abbrev pub decreases-choose_atom : goal.decreases-choose_atom
-decreases-choose_atom g l = 4 * (length l.code.now - l.at) + 1
-
-abbrev pub decreases-choose_membrane : goal.decreases-choose_membrane
-decreases-choose_membrane g l = 4 * (length l.code.now - l.at) + 1
-
 abbrev pub decreases-search_atoms : goal.decreases-search_atoms
-decreases-search_atoms g l = 4 * (length l.code.now - l.at)
+decreases-search_atoms g l = 6 * (length l.code.now - l.at)
 
 abbrev pub decreases-search_home : goal.decreases-search_home
-decreases-search_home g l = 4 * (length l.code.now - l.at)
+decreases-search_home g l = 6 * (length l.code.now - l.at)
 
 abbrev pub decreases-search_membranes : goal.decreases-search_membranes
-decreases-search_membranes g l = 4 * (length l.code.now - l.at)
+decreases-search_membranes g l = 6 * (length l.code.now - l.at)
+
+abbrev pub decreases-choose_atom : goal.decreases-choose_atom
+decreases-choose_atom g l = 6 * (length l.code.now - l.at) + 1
+
+abbrev pub decreases-choose_membrane : goal.decreases-choose_membrane
+decreases-choose_membrane g l = 6 * (length l.code.now - l.at) + 1
+
+abbrev pub decreases-choose_atom_apart : goal.decreases-choose_atom_apart
+decreases-choose_atom_apart g l = 6 * (length l.code.now - l.at) + 2
+
+abbrev pub decreases-choose_membrane_apart : goal.decreases-choose_membrane_apart
+decreases-choose_membrane_apart g l = 6 * (length l.code.now - l.at) + 2
+
+abbrev pub decreases-search : goal.decreases-search
+decreases-search g l = 6 * (length l.code.now - l.at) + 3
+
+abbrev pub decreases-search_apart : goal.decreases-search_apart
+decreases-search_apart g l = 6 * (length l.code.now - l.at) + 4
+
+abbrev pub decreases-begin : goal.decreases-begin
+decreases-begin g l = 6 * (length l.code.now - l.at) + 5
 
 abbrev pub invariant-search-loop-i : goal.invariant-search-loop-i
 invariant-search-loop-i g l = record {

@@ -1,8 +1,10 @@
 use Rattle.std.proofs.Common.{refl, subst, sym, length, [], ◌∷◌}
-use Rattle.lmn_machine.specs.Searching.{ChoosesNone, HeadInOrder, Stepped}
+use Rattle.std.specs.Prelude.{true}
+use Rattle.lmn_machine.specs.Searching.{ChoosesNone, HeadInOrder, Stepped, TestsSetRegisters}
 use Rattle.lmn_machine.specs.Outcomes.{ChoosesAtoms, ChoosesMembranes}
 use Rattle.lmn_machine.proofs.Telling.{told}
-use Rattle.lmn_machine.proofs.Stepping.{deref_is, left_over}
+use Rattle.lmn_instr_code.specs.Running.{InstructionHolds}
+use Rattle.lmn_machine.proofs.Stepping.{check_stepped, deref_is, left_over}
 use Rattle.lmn_machine.proofs.steps.step.Goals as goal
 
 pub returns-in-Deref-clause-stepped : goal.returns-in-Deref-clause-stepped
@@ -40,3 +42,12 @@ returns-in-Div-clause-stepped g c = c.compute_apart-in-Div.ensures g.S.LinkStore
 
 pub returns-in-Mod-clause-stepped : goal.returns-in-Mod-clause-stepped
 returns-in-Mod-clause-stepped g c = c.compute_apart-in-Mod.ensures g.S.LinkStore.atom_id g.S.LinkStore.mem_id (g.S.LinkStore.heap c.args.store.now) c.requires.held
+
+pub returns-in-Commit-clause-stepped : goal.returns-in-Commit-clause-stepped
+returns-in-Commit-clause-stepped g c =
+    let h = g.S.LinkStore.heap c.args.store.now in
+    let set = c.args.set.now in (
+      subst ChoosesNone (sym c.in-Commit.is) tt,
+      check_stepped g.S.LinkStore.atom_id g.S.LinkStore.mem_id h set true c.args.instr.now c.requires.held (subst (λ i. TestsSetRegisters (length set.atoms) (length set.membranes) (length set.integers) i) (sym c.in-Commit.is) tt)
+          (λ n s a. (λ t. subst (λ i. InstructionHolds h n s i) (sym c.in-Commit.is) tt, λ t. refl)),
+    )
