@@ -5,7 +5,7 @@ use Rattle.lmn_store_counts.specs.Counts.{HasCounts}
 use Rattle.lmn_web_cells.specs.CellIds.{cell_id}
 use Rattle.lmn_web.specs.declared.kind.CellKind.{CellKind}
 use Rattle.lmn_web.specs.declared.kind.CellKind.TheVariants.{Atom, Membrane}
-use Rattle.lmn_web.specs.Webs.{WebCell, kind_at, home_at, arity_at, cells_in, web_label}
+use Rattle.lmn_web.specs.Webs.{WebCell, FilesNone, kind_at, home_at, arity_at, cells_in, web_label}
 use Rattle.lmn_web_merging.specs.Keepers.{merged_by, port_mark, LENT}
 use Rattle.lmn_store_web.specs.Labels.{IsLabelNumber}
 use Rattle.lmn_store_web_preorder.specs.Indexed.{IsNested}
@@ -17,7 +17,7 @@ use Rattle.lmn_store_web.specs.declared.web_store.WebStore.TheInside.{Inside}
 abbrev pub HasRules : List (Option RuleList) → (ℕ → Option WebCell) → ℕ → ℕ → Type 0
 HasRules table w m i = (web_label w m ≡ Some i) × IsSome (slice_index_or table i None)
 
--- The posts are three membranes, and all else has a home. No membrane has ports, and each has rules of its own. All rules of the table are those of a membrane. Labels of atoms are in range. Nothing stands in a membrane that waits, and neither it nor a post has had a keeper. One whose cell is lent is gone.
+-- The posts are three membranes, and all else has a home. No membrane has ports, and each has rules of its own. All rules of the table are those of a membrane. Labels of atoms are in range. The cells of what waits and of what is gone file no atoms. Nothing stands in a membrane that waits, and neither it nor a post has had a keeper. One whose cell is lent is gone.
 pub record IsStored (p : Posts) (table : List (Option RuleList)) (w : ℕ → Option WebCell) : Type 0 where
   pub root : kind_at w p.root ≡ Membrane
   pub waiting : kind_at w p.waiting ≡ Membrane
@@ -31,6 +31,7 @@ pub record IsStored (p : Posts) (table : List (Option RuleList)) (w : ℕ → Op
   pub rules : (m : ℕ) → kind_at w m ≡ Membrane → m ≢ p.waiting → m ≢ p.gone → (i : ℕ) × HasRules table w m i
   pub own_rules : (m n i : ℕ) → IsSome (mems_of p table w m) → IsSome (mems_of p table w n) → web_label w m ≡ Some i → web_label w n ≡ Some i → m ≡ n
   pub used : (i : ℕ) → IsSome (slice_index_or table i None) → (m : ℕ) × IsSome (mems_of p table w m) × (web_label w m ≡ Some i)
+  pub files : (m : ℕ) → (m ≡ p.waiting) ⊎ (m ≡ p.gone) → FilesNone w m
   pub bare : (m : ℕ) (k : CellKind) → home_at w m ≡ Some p.waiting → cells_in w m k ≡ []
   pub plain : (m : ℕ) → kind_at w m ≡ Membrane → (m ≡ p.waiting) ⊎ (m ≡ p.gone) ⊎ (home_at w m ≡ Some p.waiting) → port_mark w m ≡ 0
   pub lent : (m : ℕ) → kind_at w m ≡ Membrane → port_mark w m ≡ LENT → home_at w m ≡ Some p.gone

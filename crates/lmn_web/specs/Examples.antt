@@ -1,9 +1,9 @@
 -- A small web, made by what calls do, and what holds of it.
-use Rattle.std.specs.Prelude.{◌≡◌, ℕ, [], ◌∷◌, Option, Some, None}
+use Rattle.std.specs.Prelude.{◌≡◌, ◌^◌, ℕ, [], ◌∷◌, Option, Some, None}
 use Rattle.std.specs.Option.{option_map}
 use Rattle.lmn_store_heap.specs.Heap.{alter}
 use Rattle.lmn_web.specs.declared.kind.CellKind.TheVariants.{Atom, Membrane}
-use Rattle.lmn_web.specs.Webs.{WebCell, new_cell, with_list, cells_in, home_at, added_last, added_before, unlinked, with_label, with_class, IsLoose, StandOnce, WithoutAtoms}
+use Rattle.lmn_web.specs.Webs.{WebCell, new_cell, with_list, cells_in, home_at, added_last, added_before, unlinked, with_label, with_class, FilesNone, IsLoose, StandOnce, WithoutAtoms}
 
 -- the membrane 0, and the atoms 1 and 2 in no list
 abbrev pub unlisted : ℕ → Option WebCell
@@ -63,6 +63,14 @@ NoneHasTwoPorts = with_label two_listed 6 2 (1 ∷ 2 ∷ []) ≡ []
 -- labels with one upper half are of one class
 abbrev pub BothAreOfOneClass : Type 0
 BothAreOfOneClass = with_class two_listed 0 1 (1 ∷ 2 ∷ []) ≡ 1 ∷ 2 ∷ []
+
+-- a membrane whose label has another class than 0 files no atoms
+abbrev pub FarFilesNone : Type 0
+FarFilesNone = FilesNone (alter (λ _. None) 0 (λ _. Some (new_cell (2 ^ 64) 0 Membrane))) 0
+
+-- one whose label has the class 0 files them
+abbrev pub NearFiles : Type 0
+NearFiles = FilesNone two_listed 0 → ⊥
 
 -- with another one there is none
 abbrev pub NoneIsOfAnotherClass : Type 0

@@ -7,7 +7,7 @@ use Rattle.lmn_web_cells.specs.Runs.{link_in, Line}
 use Rattle.lmn_web_cells.specs.Links.{HOME, LEADERS}
 use Rattle.lmn_web.specs.declared.kind.CellKind.{CellKind}
 use Rattle.lmn_web.specs.declared.kind.CellKind.TheVariants.{Atom}
-use Rattle.lmn_web.specs.Kinds.{kind_by}
+use Rattle.lmn_web.specs.Kinds.{FILED, kind_by}
 use Rattle.lmn_web.specs.Classes.{files, ClassTree, AreClassed}
 use Rattle.lmn_web.specs.Webs.{number_in, count_number, list_link, list_in}
 use Rattle.lmn_web_cells.specs.Numbers.{INDEX, ARITY, KIND, HIGH, LOW}
@@ -47,9 +47,10 @@ pub record IsWeb (f : ℕ → Option HeldCell) (made : ℕ) : Type 0 where
   pub paired : Paired f
   pub listed : IsListed f (list_in f)
 
--- the atoms of each membrane that files them are linked by class, and the lower half of each label is below 2 ^ 64
+-- the atoms of each membrane that files them are linked by class, a membrane files them only where the class of its label is 0, and the lower half of each label is below 2 ^ 64
 pub record IsClassed (f : ℕ → Option HeldCell) (lists : ℕ → CellKind → List ℕ) : Type 0 where
   pub classes : (m : ℕ) → files f m Atom ≡ true → (t : ClassTree) × AreClassed f m (lists m Atom) t
+  pub filing : (m : ℕ) → number_in f m KIND ≡ FILED → number_in f m HIGH ≡ 0
   pub low : (b : ℕ) → number_in f b LOW < 2 ^ 64
 
 -- a web whose atoms are linked by class

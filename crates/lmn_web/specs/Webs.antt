@@ -83,6 +83,10 @@ with_label w label n xs = filter (is_labelled w label n) xs
 abbrev pub label_class : ℕ → ℕ
 label_class label = label / 2 ^ 64
 
+-- a membrane whose atoms aren't filed by class: its label has another class than 0
+abbrev pub FilesNone : (ℕ → Option WebCell) → ℕ → Type 0
+FilesNone w m = (l : ℕ) → web_label w m ≡ Some l → label_class l ≢ 0
+
 -- the cell's label has this class, and the cell so many ports
 abbrev pub is_classed : (ℕ → Option WebCell) → ℕ → ℕ → ℕ → Bool
 is_classed w class n a = unwrap_or (option_map (λ k. label_class k == class) (web_label w a)) false && (arity_at w a == n)
