@@ -120,6 +120,7 @@ module _ (v w : ℕ → Option WebCell) (same : (x : ℕ) → option_map core (w
       rules = λ m e d g. let r = k.rules m (sym (kind_same m) ∙ e) d g in (r.0, (label_same m ∙ r.1.0, r.1.1));
       own_rules = λ m n i s u e f. k.own_rules m n i (mem_same m s) (mem_same n u) (sym (label_same m) ∙ e) (sym (label_same n) ∙ f);
       used = λ i s. let u = k.used i s in (u.0, mem_back u.0 u.1, label_same u.0 ∙ u.2);
+      files = λ m e l f. k.files m e l (sym (label_same m) ∙ f);
       bare = λ m j e. cells_same m j ∙ k.bare m j (sym (home_same m) ∙ e);
       lent = λ m e f. let e0 = sym (kind_same m) ∙ e in home_same m ∙ k.lent m e0 (sym (told_mark (w m) e ∙ ap told_core (same m) ∙ sym (told_mark (v m) e0)) ∙ f);
       plain = λ m e f. let e0 = sym (kind_same m) ∙ e in

@@ -186,6 +186,7 @@ module _ (p : Posts) (l : ℕ) (t : List (Option RuleList)) (w : ℕ → Option 
       own_rules = λ y z i a b e f. c.stored.own_rules y z i (mem_was y a) (mem_was z b) (sym (label_rest y (not_gone y (mem_there p t v y a).0)) ∙ e) (sym (label_rest z (not_gone z (mem_there p t v z b).0)) ∙ f);
       used = λ i z. let r = c.stored.used i z in
           (r.0, subst (λ (f : ℕ → Option HeapMem). IsSome (f r.0)) (sym mems_is) r.1, label_rest r.0 (no_mem r.0 (mem_there p t w r.0 r.1).1) ∙ r.2);
+      files = λ y f i e. c.stored.files y f i (sym (label_rest y (not_gone y (labelled_there (v y) i e))) ∙ e);
       bare = λ y j e. let k = home_not_gone y p.waiting e in let h = sym (home_rest y k) ∙ e in cells_rest y j k (homed_not_line y p.waiting h) ∙ c.stored.bare y j h;
       lent = λ y e f. let k = mem_not_gone y e in home_rest y k ∙ c.stored.lent y (sym (kind_all y) ∙ e) (sym (mark_rest y k) ∙ f);
       plain = λ y e f. let k = mem_not_gone y e in mark_rest y k ∙ c.stored.plain y (sym (kind_all y) ∙ e) (elim f [ inl g ↦ inl g | inr g ↦ elim g [ inl h ↦ inr (inl h) | inr h ↦ inr (inr (sym (home_rest y k) ∙ h)) ] ]);

@@ -216,6 +216,7 @@ module _ (w v : ℕ → Option WebCell) (l x : ℕ) (d : Drops w v l x) where
       used = λ i q. let u = used i q in let r = c.stored.used i u.0 in let o = mem_there p t w r.0 r.1 in
           let k : r.0 ≢ x = (λ e. u.1 (ap (kind_at w) (sym e) ∙ o.1) (ap (web_label w) (sym e) ∙ r.2)) in
           (r.0, mem_is p g v r.0 (kind_rest r.0 k ∙ o.1) o.2 o.3 (there_rest r.0 k ∙ o.0), label_rest r.0 k ∙ r.2);
+      files = λ y f i e. c.stored.files y f i (sym (label_rest y (labelled y i e)) ∙ e);
       bare = λ y j e. let k = home_not_x y p.waiting e in let h = sym (home_rest y k) ∙ e in cells_rest y j k (homed_not_line y p.waiting h) ∙ c.stored.bare y j h;
       lent = λ y e f. let k = mem_not_x y e in home_rest y k ∙ c.stored.lent y (sym (kind_rest y k) ∙ e) (sym (mark_rest y k) ∙ f);
       plain = λ y e f. let k = mem_not_x y e in mark_rest y k ∙ c.stored.plain y (sym (kind_rest y k) ∙ e) (elim f [ inl g ↦ inl g | inr g ↦ elim g [ inl h ↦ inr (inl h) | inr h ↦ inr (inr (sym (home_rest y k) ∙ h)) ] ]);

@@ -15,7 +15,7 @@ use Rattle.lmn_web.specs.declared.kind.CellKind.{CellKind}
 use Rattle.lmn_web.specs.declared.kind.CellKind.TheVariants.{Atom, Membrane}
 use Rattle.lmn_web.specs.Webs as web
 use Rattle.lmn_web_merging.specs.Keepers.{LENT}
-use Rattle.lmn_web.specs.Webs.{WebCell, web_kind, kind_at, home_at, arity_at, cells_in, cells_of, web_label, new_cell, with_home, with_list, added_last}
+use Rattle.lmn_web.specs.Webs.{WebCell, FilesNone, web_kind, kind_at, home_at, arity_at, cells_in, cells_of, web_label, new_cell, with_home, with_list, added_last}
 use Rattle.lmn_store_web.specs.Labels.{IsLabelNumber, label_by}
 use Rattle.lmn_store_web.specs.WebHeaps.{Posts, no_rules, rules_at, atom_by, if_atom, if_membrane, atoms_of, mem_by, is_post, mems_of, heap_by}
 use Rattle.lmn_store_web.specs.WebStores.{IsStored}
@@ -86,6 +86,11 @@ module _ (v u : ℕ → Option WebCell) (c l n : ℕ) (K : CellKind) (none : v c
   -- and its mark
   pub old_mark : (x : ℕ) → kind_at v x ≡ Membrane → slice_index_or (web.marks_of (u x)) 1 0 ≡ slice_index_or (web.marks_of (v x)) 1 0
   old_mark x e = (λ j. slice_index_or (web.marks_of (make j x)) 1 0) ∙ ap (λ (o : Option WebCell). slice_index_or (web.marks_of o) 1 0) (alter_away v c (λ _. Some (new_cell l n K)) x (λ q. new_apart x e (sym q)))
+
+  -- and a membrane that files no atoms files none
+  pub old_files : (x : ℕ) → kind_at v x ≡ Membrane → FilesNone v x → FilesNone u x
+  old_files x e h i f =
+      h i (sym ((λ j. option_map (λ (q : WebCell). q.label) (make j x)) ∙ ap (λ (o : Option WebCell). option_map (λ (q : WebCell). q.label) o) (alter_away v c (λ _. Some (new_cell l n K)) x (λ q. new_apart x e (sym q)))) ∙ f)
 
 new_cells : (h : Option ℕ) (l n : ℕ) (K k : CellKind) → cells_of (Some (with_home h (new_cell l n K))) k ≡ []
 new_cells h l n K Atom = refl
@@ -206,6 +211,7 @@ module _ (p : Posts) (v w : ℕ → Option WebCell) (c : ℕ) (K : CellKind) (l 
         | inl h ↦ (let u = k.used i h in let x = mem_stays u.0 u.1 in (u.0, x.1, label_beside u.0 x.0 ∙ u.2))
         | inr h ↦ (c, mem_is p t1 w c (kind_here ∙ h.0) (λ e. apart_waiting (sym e)) (λ e. apart_gone (sym e)) some_here, label_here ∙ ap Some (sym h.1))
       ];
+      files = λ m g j e. k.files m g j (sym (label_beside m (other m (post m (inr g)))) ∙ e);
       bare = λ m j e. elim (cases_eq m c) [
         | inl q ↦ ap (λ z. cells_in w z j) q ∙ ap (λ (o : Option WebCell). cells_of o j) d.here ∙ new_cells (Some p.waiting) l n K j
         | inr q ↦ (let h = sym (home_beside m q) ∙ e in ap (λ (o : Option WebCell). cells_of o j) (d.others m q (no_line m h)) ∙ k.bare m j h)

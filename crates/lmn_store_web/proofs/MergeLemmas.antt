@@ -187,6 +187,7 @@ module _ (p : Posts) (t : List (Option RuleList)) (w v : ℕ → Option WebCell)
     rules = λ y e f g. let r = h.rules y (sym (kind_same y) ∙ e) f g in (r.0, (labels_stay y ∙ r.1.0, r.1.1));
     own_rules = λ y z i f g d e. h.own_rules y z i (mem_was y f) (mem_was z g) (sym (labels_stay y) ∙ d) (sym (labels_stay z) ∙ e);
     used = λ i f. let r = h.used i f in let o = mem_there p t w r.0 r.1 in (r.0, mem_is p t v r.0 (kind_same r.0 ∙ o.1) o.2 o.3 (there_same r.0 ∙ o.0), labels_stay r.0 ∙ r.2);
+    files = λ y f l e. h.files y f l (sym (labels_stay y) ∙ e);
     bare = λ y k e. let was = home_was y p.waiting (λ z. q.target_waits (sym z)) e in
         cells_away y k (λ z. waits (ap (home_at w) (sym z) ∙ was)) (λ z. q.fits (ap (home_at w) (sym z) ∙ was)) ∙ h.bare y k was;
     plain = λ y k e. marks_away y (not_m at y e) (not_n y e) ∙ h.plain y (sym (kind_same y) ∙ k) (waits_was y e);

@@ -1,8 +1,9 @@
 -- A store with the root alone.
-use Rattle.std.proofs.Common.{◌≡◌, ◌≢◌, ◌⊎◌, ℕ, Bool, List, [], Option, Some, None, IsSome, refl, sym, ap, subst, ◌∙◌, inl, inr, arith, length}
+use Rattle.std.proofs.Common.{◌≡◌, ◌≢◌, ◌⊎◌, ◌/◌, ◌^◌, ℕ, Bool, List, [], Option, Some, None, IsSome, refl, sym, ap, subst, ◌∙◌, inl, inr, arith, length}
 use Rattle.std.specs.Prelude.{slice_index_or, unwrap_or}
 use Rattle.std.specs.Option.{option_map, option_and_then}
 use Rattle.std.proofs.lemmas.Bool.{cases_eq}
+use Rattle.std.proofs.lemmas.Option.{same_Some}
 use Rattle.lmn_store_heap.specs.Heap.{HeapMem, alter, top, new_mem, mem_with_place}
 use Rattle.lmn_store_heap.proofs.Listing.{alter_at, alter_away}
 use Rattle.lmn_store_counts.specs.RuleLists.{RuleList}
@@ -13,11 +14,15 @@ use Rattle.lmn_web.specs.declared.kind.CellKind.{CellKind}
 use Rattle.lmn_web.specs.declared.kind.CellKind.TheVariants.{Atom, Membrane}
 use Rattle.lmn_web.specs.Webs as web
 use Rattle.lmn_web_merging.specs.Keepers.{LENT}
-use Rattle.lmn_web.specs.Webs.{WebCell, web_kind, kind_at, home_at, arity_at, cells_in, cells_of, web_label, new_cell}
+use Rattle.lmn_web.specs.Webs.{WebCell, FilesNone, label_class, web_kind, kind_at, home_at, arity_at, cells_in, cells_of, web_label, new_cell}
 use Rattle.lmn_store_web.specs.WebHeaps.{Posts, no_rules, atom_by, if_atom, atoms_of, mem_by, mems_of, heap_by, alone}
 use Rattle.lmn_store_web.specs.WebStores.{IsStored}
 use Rattle.lmn_web_merging.proofs.Sending.{kind_there}
 use Rattle.lmn_store_web.proofs.ReadLemmas.{mem_there, mem_is, mems_are}
+
+-- the label of the cells of what waits and of what is gone
+abbrev pub LINE : ℕ
+LINE = 2 ^ 64
 
 none_census : {X : Type 0} (w : X → ℕ) → Census w (λ (k : ℕ). None) 0
 none_census {X} w = record { keys = []; once = tt; all = λ k. (λ i. absurd i, λ i. absurd (let u : IsSome {T = X} None = i in cc)); weighs = refl }
@@ -27,10 +32,10 @@ module _ (by_value : Bool) (a b r key : ℕ) (t : List (Option RuleList)) (ba : 
   p = record { root = r; waiting = a; gone = b; by_value = by_value }
 
   abbrev one_post : ℕ → Option WebCell
-  one_post = alter (λ _. None) a (λ _. Some (new_cell 0 0 Membrane))
+  one_post = alter (λ _. None) a (λ _. Some (new_cell LINE 0 Membrane))
 
   abbrev two_posts : ℕ → Option WebCell
-  two_posts = alter one_post b (λ _. Some (new_cell 0 0 Membrane))
+  two_posts = alter one_post b (λ _. Some (new_cell LINE 0 Membrane))
 
   abbrev w : ℕ → Option WebCell
   w = alter two_posts r (λ _. Some (new_cell key 0 Membrane))
@@ -38,12 +43,12 @@ module _ (by_value : Bool) (a b r key : ℕ) (t : List (Option RuleList)) (ba : 
   at_root : w r ≡ Some (new_cell key 0 Membrane)
   at_root = alter_at two_posts r (λ _. Some (new_cell key 0 Membrane))
 
-  at_gone : w b ≡ Some (new_cell 0 0 Membrane)
-  at_gone = alter_away two_posts r (λ _. Some (new_cell key 0 Membrane)) b (λ e. rb (sym e)) ∙ alter_at one_post b (λ _. Some (new_cell 0 0 Membrane))
+  at_gone : w b ≡ Some (new_cell LINE 0 Membrane)
+  at_gone = alter_away two_posts r (λ _. Some (new_cell key 0 Membrane)) b (λ e. rb (sym e)) ∙ alter_at one_post b (λ _. Some (new_cell LINE 0 Membrane))
 
-  at_waiting : w a ≡ Some (new_cell 0 0 Membrane)
-  at_waiting = alter_away two_posts r (λ _. Some (new_cell key 0 Membrane)) a (λ e. ra (sym e)) ∙ alter_away one_post b (λ _. Some (new_cell 0 0 Membrane)) a (λ e. ba (sym e))
-      ∙ alter_at (λ _. None) a (λ _. Some (new_cell 0 0 Membrane))
+  at_waiting : w a ≡ Some (new_cell LINE 0 Membrane)
+  at_waiting = alter_away two_posts r (λ _. Some (new_cell key 0 Membrane)) a (λ e. ra (sym e)) ∙ alter_away one_post b (λ _. Some (new_cell LINE 0 Membrane)) a (λ e. ba (sym e))
+      ∙ alter_at (λ _. None) a (λ _. Some (new_cell LINE 0 Membrane))
 
   -- each cell is a post
   data Seen (x : ℕ) : Type 0 where
@@ -54,10 +59,10 @@ module _ (by_value : Bool) (a b r key : ℕ) (t : List (Option RuleList)) (ba : 
   seen x = elim (cases_eq x r) [
     | inl e ↦ is_cell key (inl e) (ap w e ∙ at_root)
     | inr d ↦ elim (cases_eq x a) [
-      | inl e ↦ is_cell 0 (inr (inl e)) (ap w e ∙ at_waiting)
+      | inl e ↦ is_cell LINE (inr (inl e)) (ap w e ∙ at_waiting)
       | inr f ↦ elim (cases_eq x b) [
-        | inl e ↦ is_cell 0 (inr (inr e)) (ap w e ∙ at_gone)
-        | inr g ↦ is_no d (alter_away two_posts r (λ _. Some (new_cell key 0 Membrane)) x d ∙ alter_away one_post b (λ _. Some (new_cell 0 0 Membrane)) x g ∙ alter_away (λ _. None) a (λ _. Some (new_cell 0 0 Membrane)) x f)
+        | inl e ↦ is_cell LINE (inr (inr e)) (ap w e ∙ at_gone)
+        | inr g ↦ is_no d (alter_away two_posts r (λ _. Some (new_cell key 0 Membrane)) x d ∙ alter_away one_post b (λ _. Some (new_cell LINE 0 Membrane)) x g ∙ alter_away (λ _. None) a (λ _. Some (new_cell LINE 0 Membrane)) x f)
       ]
     ]
   ]
@@ -106,11 +111,18 @@ module _ (by_value : Bool) (a b r key : ℕ) (t : List (Option RuleList)) (ba : 
       | inl e ↦ (r, mem_is p t w r (ap web_kind at_root) ra rb (subst (λ (o : Option WebCell). IsSome o) (sym at_root) refl), ap (λ (o : Option WebCell). option_map (λ c. c.label) o) at_root ∙ ap Some (sym e))
       | inr d ↦ absurd (let u : IsSome {T = RuleList} None = subst (λ (o : Option RuleList). IsSome o) (no_others i d) s in cc)
     ];
+    files = λ m g. elim g [ inl e ↦ line_files m (ap w e ∙ at_waiting) | inr e ↦ line_files m (ap w e ∙ at_gone) ];
     bare = λ m k e. no_list m k;
     plain = λ m k e. unmarked m (seen m);
     lent = λ m k e. absurd (let z : 0 ≡ LENT = sym (unmarked m (seen m)) ∙ e in cc);
   }
     where
+      line_files : (m : ℕ) → w m ≡ Some (new_cell LINE 0 Membrane) → FilesNone w m
+      line_files m e l f z = let q = same_Some LINE l (sym (ap (λ (o : Option WebCell). option_map (λ (c : WebCell). c.label) o) e) ∙ f) in not_zero (subst (λ n. label_class n ≡ 0) (sym q) z)
+        where
+          not_zero : LINE / 2 ^ 64 ≡ 0 → ⊥
+          not_zero z = absurd (omega (arith, z))
+
       which : (x : ℕ) → IsSome (w x) → Seen x → (x ≡ r) ⊎ (x ≡ a) ⊎ (x ≡ b)
       which x s (is_cell l c e) = c
       which x s (is_no d e) = absurd (no_cell x s e)
@@ -175,17 +187,17 @@ apart_two f g h a b r c d e k ba n = λ q.
     let u : None ≡ Some c = sym n ∙ ap f q ∙ (λ j. k j a) ∙ alter_away g b (λ _. Some d) a (λ z. ba (sym z)) ∙ (λ j. e j a) ∙ alter_at h a (λ _. Some c) in absurd (cc)
 
 -- three cells that were made are a store with the root alone
-pub new_all : (by_value : Bool) (f0 f1 f2 f3 : ℕ → Option WebCell) (a b r key : ℕ) (t : List (Option RuleList)) → f0 ≡ (λ _. None) → f1 ≡ alter f0 a (λ _. Some (new_cell 0 0 Membrane)) → f1 b ≡ None
-    → f2 ≡ alter f1 b (λ _. Some (new_cell 0 0 Membrane)) → f2 r ≡ None → f3 ≡ alter f2 r (λ _. Some (new_cell key 0 Membrane)) → slice_index_or t key None ≡ Some no_rules → ((i : ℕ) → i ≢ key → slice_index_or t i None ≡ None)
+pub new_all : (by_value : Bool) (f0 f1 f2 f3 : ℕ → Option WebCell) (a b r key : ℕ) (t : List (Option RuleList)) → f0 ≡ (λ _. None) → f1 ≡ alter f0 a (λ _. Some (new_cell LINE 0 Membrane)) → f1 b ≡ None
+    → f2 ≡ alter f1 b (λ _. Some (new_cell LINE 0 Membrane)) → f2 r ≡ None → f3 ≡ alter f2 r (λ _. Some (new_cell key 0 Membrane)) → slice_index_or t key None ≡ Some no_rules → ((i : ℕ) → i ≢ key → slice_index_or t i None ≡ None)
     → IsStored (record { root = r; waiting = a; gone = b; by_value = by_value }) t f3 × HasCounts (atoms_of (record { root = r; waiting = a; gone = b; by_value = by_value }) f3) (mems_of (record { root = r; waiting = a; gone = b; by_value = by_value }) t f3) 0 1 0
     × (heap_by (record { root = r; waiting = a; gone = b; by_value = by_value }) t f3 ≡ alone r)
 new_all by_value f0 f1 f2 f3 a b r key t e0 e1 n1 e2 n2 e3 row others =
     let q : Posts = record { root = r; waiting = a; gone = b; by_value = by_value } in
-    let ba = apart_one f1 f0 a b (new_cell 0 0 Membrane) e1 n1 in
-    let rb = apart_one f2 f1 b r (new_cell 0 0 Membrane) e2 n2 in
-    let ra = apart_two f2 f1 f0 a b r (new_cell 0 0 Membrane) (new_cell 0 0 Membrane) e1 e2 ba n2 in
-    let is : f3 ≡ w by_value a b r key t ba ra rb row others = e3 ∙ ap (λ (f : ℕ → Option WebCell). alter f r (λ _. Some (new_cell key 0 Membrane))) (e2 ∙ ap (λ (f : ℕ → Option WebCell). alter f b (λ _. Some (new_cell 0 0 Membrane)))
-    (e1 ∙ ap (λ (f : ℕ → Option WebCell). alter f a (λ _. Some (new_cell 0 0 Membrane))) e0)) in (
+    let ba = apart_one f1 f0 a b (new_cell LINE 0 Membrane) e1 n1 in
+    let rb = apart_one f2 f1 b r (new_cell LINE 0 Membrane) e2 n2 in
+    let ra = apart_two f2 f1 f0 a b r (new_cell LINE 0 Membrane) (new_cell LINE 0 Membrane) e1 e2 ba n2 in
+    let is : f3 ≡ w by_value a b r key t ba ra rb row others = e3 ∙ ap (λ (f : ℕ → Option WebCell). alter f r (λ _. Some (new_cell key 0 Membrane))) (e2 ∙ ap (λ (f : ℕ → Option WebCell). alter f b (λ _. Some (new_cell LINE 0 Membrane)))
+    (e1 ∙ ap (λ (f : ℕ → Option WebCell). alter f a (λ _. Some (new_cell LINE 0 Membrane))) e0)) in (
       subst (λ f. IsStored q t f) (sym is) (new_stored by_value a b r key t ba ra rb row others),
       subst (λ f. HasCounts (atoms_of q f) (mems_of q t f) 0 1 0) (sym is) (new_counts by_value a b r key t ba ra rb row others),
       ap (λ (f : ℕ → Option WebCell). heap_by q t f) is ∙ new_heap by_value a b r key t ba ra rb row others,

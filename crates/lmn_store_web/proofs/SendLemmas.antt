@@ -62,6 +62,13 @@ out_marks w m x y =
     (λ o. ap (λ (us : List ℕ). slice_index_or us 1 0) (list_marks (kind_at w x) (without x (cells_in w m (kind_at w x))) o)) y
     ∙ alter_keeps w x (option_map (with_home None)) (λ (o : Option WebCell). slice_index_or (web.marks_of o) 1 0) (λ o. ap (λ (us : List ℕ). slice_index_or us 1 0) (home_marks None o)) y
 
+-- and the labels
+pub out_labels : (w : ℕ → Option WebCell) (m x y : ℕ) → web_label (unlinked w m x) y ≡ web_label w y
+out_labels w m x y =
+    alter_keeps (alter w x (option_map (with_home None))) m (option_map (with_list (kind_at w x) (without x (cells_in w m (kind_at w x))))) (λ (o : Option WebCell). option_map (λ (c : WebCell). c.label) o)
+    (list_label (kind_at w x) (without x (cells_in w m (kind_at w x)))) y
+    ∙ alter_keeps w x (option_map (with_home None)) (λ (o : Option WebCell). option_map (λ (c : WebCell). c.label) o) (home_label None) y
+
 -- weights of items that are read off a cell
 module _ (p : Posts) (t : List (Option RuleList)) where
   -- the atom that a cell is, if it is one
@@ -234,6 +241,7 @@ module _ (w v : ℕ → Option WebCell) (m n x : ℕ) (s : Sends w v m n x) wher
         rules = λ y e a b. let r = h.rules y (sym (kind_same y) ∙ e) a b in (r.0, (label_same y ∙ r.1.0, r.1.1));
         own_rules = λ y z i a b c d. h.own_rules y z i (mem_was y a) (mem_was z b) (sym (label_same y) ∙ c) (sym (label_same z) ∙ d);
         used = λ i q. let r = h.used i q in let o = mem_there p t w r.0 r.1 in (r.0, mem_is p t v r.0 (kind_same r.0 ∙ o.1) o.2 o.3 (there_same r.0 ∙ o.0), label_same r.0 ∙ r.2);
+        files = λ y f l e. h.files y f l (sym (label_same y) ∙ e);
         bare = bare_now;
         plain = λ y e f. mark_same y ∙ h.plain y (sym (kind_same y) ∙ e) (waits_was y f);
         lent = λ y e f. let was = h.lent y (sym (kind_same y) ∙ e) (sym (mark_same y) ∙ f) in elim (cases_eq y x) [

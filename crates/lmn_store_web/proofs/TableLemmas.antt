@@ -169,6 +169,7 @@ module _ (p : Posts) (t : List (Option RuleList)) (w : ℕ → Option WebCell) (
     rules = λ m e d g. let r = k.rules m e d g in (r.0, (r.1.0, same r.0 ∙ r.1.1));
     own_rules = λ m n i s u e f. k.own_rules m n i (mem_was m s) (mem_was n u) e f;
     used = λ i s. let u = k.used i (sym (same i) ∙ s) in (u.0, mem_stays u.0 u.1, u.2);
+    files = k.files;
     bare = k.bare;
     plain = k.plain;
     lent = k.lent;

@@ -14,7 +14,7 @@ use crate::filing::seek_integers;
 use crate::freeing::{free_atoms, free_mems};
 use crate::indexing::{hold, wake};
 use crate::labels::{label_of, number_of};
-use crate::sending::{send, send_plain};
+use crate::sending::{send, send_first, send_plain};
 use crate::table;
 use lmn_base::{Functor, NoMemory, RuleTree};
 use lmn_store_counts::{BOUND, Rules};
@@ -24,6 +24,9 @@ use lmn_web_merging::{Cell, CellKind, MergingWeb};
 use slab::Slab;
 use std::alloc::Global;
 use std::marker::Model;
+
+// The label of the cells of what waits and of what is gone: it has another class than 0, so that atoms come and go in fewer steps.
+const LINE: u128 = 0x1_0000_0000_0000_0000;
 
 /// A store that keeps its items in a web: atoms and membranes are cells, and what is detached or taken stands in
 /// the lists of a cell of its own, which doesn't file atoms by class.
@@ -109,8 +112,8 @@ impl WebStore {
         // Asleep, the root isn't found before those that the index is asked for.
         index.set_awake(key, false);
         mems.reserve(1)?;
-        let waiting = web.make_unfiled(0)?;
-        let gone = web.make_unfiled(0)?;
+        let waiting = web.make(LINE, 0, CellKind::Membrane)?;
+        let gone = web.make(LINE, 0, CellKind::Membrane)?;
         let root = web.make(key as u128, 0, CellKind::Membrane)?;
         mems.push_reserved(root);
         web.listed();
@@ -412,7 +415,7 @@ impl LinkStore for WebStore {
     fn place_atom(&mut self, m: Cell) -> Cell {
         self.web.listed();
         let a = self.web.first_plain(self.waiting, CellKind::Atom).unwrap();
-        send(&mut self.web, m, CellKind::Atom, a);
+        send_first(&mut self.web, self.waiting, m, CellKind::Atom, a);
         a
     }
 

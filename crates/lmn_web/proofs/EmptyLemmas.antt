@@ -369,6 +369,10 @@ module _ (f h : ℕ → Option HeldCell) (made : ℕ) (W : IsWeb f made) (m : �
                   (e.links n LEADERS miss (λ s. absurd (o s))) q.1),
             ))
       ];
+      filing = λ b. elim (decide_in b xs) [
+        | inl i ↦ subst (λ (o : Option HeldCell). get_or (numbers_of o) KIND 0 ≡ FILED → get_or (numbers_of o) HIGH 0 ≡ 0) (sym (e.gone b i)) (λ s. refl)
+        | inr n ↦ (λ s. e.numbers b HIGH n (λ _ q. absurd (omega (arith, q))) ∙ c.filing b (sym (e.numbers b KIND n (λ _ q. absurd (omega (arith, q)))) ∙ s))
+      ];
       low = λ b. elim (decide_in b xs) [
         | inl i ↦ subst (λ (o : Option HeldCell). get_or (numbers_of o) LOW 0 < 2 ^ 64) (sym (e.gone b i)) (omega arith)
         | inr n ↦ subst (λ k. k < 2 ^ 64) (sym (e.numbers b LOW n (λ _ s. absurd (omega (arith, s))))) (c.low b)

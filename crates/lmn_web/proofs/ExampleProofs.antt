@@ -1,13 +1,14 @@
 -- What holds of the examples.
-use Rattle.std.proofs.Common.{◌≡◌, ◌≢◌, ℕ, zero, suc, [], Option, Some, None, refl, sym, subst, inl, inr, arith}
+use Rattle.std.proofs.Common.{◌≡◌, ◌≢◌, ◌/◌, ◌^◌, ℕ, zero, suc, [], Option, Some, None, refl, sym, subst, inl, inr, arith}
 use Rattle.std.proofs.lemmas.Bool.{cases_eq}
+use Rattle.std.proofs.lemmas.Option.{same_Some}
 use Rattle.lmn_base.specs.Lists.{In}
 use Rattle.lmn_base.proofs.Numbers.{not_equal}
 use Rattle.lmn_store_heap.specs.Lists.{Distinct}
 use Rattle.lmn_web.specs.declared.kind.CellKind.{CellKind}
 use Rattle.lmn_web.specs.declared.kind.CellKind.TheVariants.{Atom, Membrane}
-use Rattle.lmn_web.specs.Webs.{WebCell, home_of, web_kind, cells_of, home_at, kind_at, cells_in, partner_at, unlinked}
-use Rattle.lmn_web.specs.Examples.{two_listed, emptied, SecondIsLast, SecondIsFirst, FirstIsGone, BothAreListed, LostAreNotListed, GoneIsLoose, ListedIsNotLoose, BothAreGone, StillThereIsNotGone, OneHasLabel, NoneHasTwoPorts, BothAreOfOneClass, NoneIsOfAnotherClass}
+use Rattle.lmn_web.specs.Webs.{WebCell, home_of, web_kind, cells_of, home_at, kind_at, cells_in, label_class, partner_at, unlinked}
+use Rattle.lmn_web.specs.Examples.{two_listed, emptied, SecondIsLast, SecondIsFirst, FirstIsGone, BothAreListed, LostAreNotListed, GoneIsLoose, ListedIsNotLoose, BothAreGone, StillThereIsNotGone, OneHasLabel, NoneHasTwoPorts, BothAreOfOneClass, FarFilesNone, NearFiles, NoneIsOfAnotherClass}
 
 -- a cell that was added last stands at the end
 pub second_is_last : SecondIsLast
@@ -122,3 +123,14 @@ both_are_of_one_class = refl
 -- with another one there is none
 pub none_is_of_another_class : NoneIsOfAnotherClass
 none_is_of_another_class = refl
+
+-- a membrane whose label has another class than 0 files no atoms
+pub far_files_none : FarFilesNone
+far_files_none l e z = let q = same_Some (2 ^ 64) l e in far (subst (λ n. label_class n ≡ 0) (sym q) z)
+  where
+    far : 2 ^ 64 / 2 ^ 64 ≡ 0 → ⊥
+    far z = absurd (omega (arith, z))
+
+-- one whose label has the class 0 files them
+pub near_files : NearFiles
+near_files f = f 0 refl refl

@@ -15,7 +15,7 @@ use Rattle.lmn_web_cells.proofs.RunLemmas.{frame}
 use Rattle.lmn_web.specs.declared.kind.CellKind.{CellKind}
 use Rattle.lmn_web.specs.declared.kind.CellKind.TheVariants.{Atom, Membrane}
 use Rattle.lmn_web.specs.Kinds.{FILED, kind_by}
-use Rattle.lmn_web.specs.Webs.{list_in, list_link, count_number, number_in}
+use Rattle.lmn_web.specs.Webs.{FilesNone, label_by, label_class, list_in, list_link, count_number, number_in, web_cell, web_label, web_of}
 use Rattle.lmn_web_cells.specs.Numbers.{ARITY, KIND, HIGH, LOW}
 use Rattle.lmn_web.specs.Indexes.{described, blank_by, numbers_by, cell_kind, IsListed, IsWeb, IsClassed, IsClassedWeb}
 use Rattle.lmn_web.specs.Classes.{AllButLinks, ClassTree, Bare, IsTree, files, class_node, key_in, is_key, of_class, RunsRound, AreClassed, MayFile, MayEnter, MayLeave, ClassBecomes, Touches, Refiled, FiledAs, put_at}
@@ -42,6 +42,22 @@ files_inside f m e s = let n = eqb-true (number_in f m KIND) FILED e in let z : 
 -- a membrane has eight numbers, where it files
 pub filed_membrane : (f : ℕ → Option HeldCell) (made m : ℕ) → IsWeb f made → IsSome (f m) → files f m Atom ≡ true → length (numbers_of (f m)) ≡ 8
 filed_membrane f made m w there e = let n = eqb-true (number_in f m KIND) FILED e in w.numbers m there ∙ ap numbers_by n
+
+-- a membrane whose label has another class than 0 files nothing
+pub files_none : (f : ℕ → Option HeldCell) (ys : ℕ → CellKind → List ℕ) → IsClassed f ys → (m : ℕ) → FilesNone (web_of f) m → (cell_kind f m ≡ Atom → ⊥) → (k : CellKind) → files f m k ≡ false
+files_none f ys c m none membrane Membrane = refl
+files_none f ys c m none membrane Atom = by (number_in f m KIND == FILED) refl
+  where
+    zero_class : (high low : ℕ) → high ≡ 0 → low < 2 ^ 64 → label_class (label_by high low) ≡ 0
+    zero_class high low e l = omega (arith, e, l)
+
+    at : (o : Option HeldCell) → f m ≡ o → (cell_kind f m ≡ Atom → ⊥) → get_or (numbers_of o) HIGH 0 ≡ 0 → get_or (numbers_of o) LOW 0 < 2 ^ 64 → ((l : ℕ) → web_label (λ _. option_map (web_cell (list_in f m)) o) m ≡ Some l → label_class l ≢ 0) → ⊥
+    at None e d h l n = d (ap (λ (o : Option HeldCell). kind_by (get_or (numbers_of o) KIND 0)) e)
+    at (Some x) e d h l n = n (label_by (get_or x.numbers HIGH 0) (get_or x.numbers LOW 0)) refl (zero_class (get_or x.numbers HIGH 0) (get_or x.numbers LOW 0) h l)
+
+    by : (b : Bool) → (number_in f m KIND == FILED) ≡ b → b ≡ false
+    by false e = refl
+    by true e = absurd (at (f m) refl membrane (c.filing m (eqb-true (number_in f m KIND) FILED e)) (c.low m) none)
 
 -- Classes stay
 
@@ -75,6 +91,7 @@ pub classed_links : (f g : ℕ → Option HeldCell) (ys : ℕ → CellKind → L
     → ((b : ℕ) → IsSome (f b) → IsSome (g b)) → IsClassed f ys → IsClassed g ys
 classed_links f g ys link key low kind stay c = record {
   classes = λ m d. let o = c.classes m (ap (λ n. n == FILED) (sym (kind m)) ∙ d) in (o.0, class_kept f g m (ys m Atom) o.0 (λ x i. key x) (λ x k i a. link x k) (λ x i t. stay x t) (link m LEADERS) o.1);
+  filing = λ m e. ap (λ (q : ℕ × ℕ). q.0) (key m) ∙ c.filing m (sym (kind m) ∙ e);
   low = λ b. subst (λ n. n < 2 ^ 64) (sym (low b)) (c.low b);
 }
 
@@ -92,8 +109,8 @@ same_classed f g made w same v = record {
 
 -- a cell comes or goes that stands in no list, has none, and has no class
 pub classed_beside : (f g : ℕ → Option HeldCell) (a : ℕ) (ys : ℕ → CellKind → List ℕ) → ((b : ℕ) → b ≢ a → g b ≡ f b) → ((m : ℕ) (k : CellKind) → In a (ys m k) → ⊥) → ((k : CellKind) → ys a k ≡ []) → link_in g a LEADERS ≡ None → number_in g a LOW < 2 ^ 64
-    → IsClassed f ys → IsClassed g ys
-classed_beside f g a ys away out none head small c = record {
+    → (number_in g a KIND ≡ FILED → number_in g a HIGH ≡ 0) → IsClassed f ys → IsClassed g ys
+classed_beside f g a ys away out none head small told c = record {
   classes = λ m d. elim (cases_eq m a) [
     | inl e ↦ (Bare, subst (λ z. AreClassed g z (ys z Atom) Bare) (sym e) (subst (λ us. AreClassed g a us Bare) (sym (none Atom)) bare))
     | inr n ↦ (let o = c.classes m (ap (λ (o : Option HeldCell). get_or (numbers_of o) KIND 0 == FILED) (sym (away m n)) ∙ d) in (
@@ -104,6 +121,10 @@ classed_beside f g a ys away out none head small c = record {
           (λ x i t. subst (λ (o : Option HeldCell). IsSome o) (sym (other m x i)) t)
           (ap (λ (o : Option HeldCell). get_or (links_of o) LEADERS None) (away m n)) o.1,
     ))
+  ];
+  filing = λ m. elim (cases_eq m a) [
+    | inl e ↦ subst (λ z. number_in g z KIND ≡ FILED → number_in g z HIGH ≡ 0) (sym e) told
+    | inr n ↦ subst (λ (o : Option HeldCell). get_or (numbers_of o) KIND 0 ≡ FILED → get_or (numbers_of o) HIGH 0 ≡ 0) (sym (away m n)) (c.filing m)
   ];
   low = λ b. elim (cases_eq b a) [
     | inl e ↦ subst (λ z. number_in g z LOW < 2 ^ 64) (sym e) small
@@ -121,13 +142,13 @@ classed_beside f g a ys away out none head small c = record {
 pub empty_classed : (f : ℕ → Option HeldCell) (made : ℕ) → f ≡ (λ _. None) → IsWeb f made → IsClassedWeb f made
 empty_classed f made none w = record {
   web = w;
-  classed = subst (λ (g : ℕ → Option HeldCell). IsClassed g (list_in g)) (sym none) record { classes = λ m d. absurd (not_true d); low = λ b. omega arith };
+  classed = subst (λ (g : ℕ → Option HeldCell). IsClassed g (list_in g)) (sym none) record { classes = λ m d. absurd (not_true d); filing = λ m e. refl; low = λ b. omega arith };
 }
 
 -- a new cell has no class
 pub made_classed : (f : ℕ → Option HeldCell) (made : ℕ) → IsClassedWeb f made → (a n k h low : ℕ) → f a ≡ None → n < 256 → low < 2 ^ 64
-    → IsClassedWeb (alter f a (λ _. Some (described made n k h low (blank_by k n)))) (made + 1)
-made_classed f made w a n k h low fresh small half =
+    → (k ≡ FILED → h ≡ 0) → IsClassedWeb (alter f a (λ _. Some (described made n k h low (blank_by k n)))) (made + 1)
+made_classed f made w a n k h low fresh small half told =
     let v : HeldCell = described made n k h low (blank_by k n) in let g = alter f a (λ _. Some v) in
     let here : g a ≡ Some v = alter_at f a (λ _. Some v) in
     let gone : IsSome (f a) → ⊥ = λ t. (let e = subst (λ (o : Option HeldCell). IsSome o) fresh t in absurd cc) in
@@ -135,7 +156,8 @@ made_classed f made w a n k h low fresh small half =
       web = made_web f made w.web a n k h low fresh small;
       classed = classed_self g (list_in f) (made_lists f made w.web a n k h low fresh small)
           (classed_beside f g a (list_in f) (λ b d. alter_away f a (λ _. Some v) b d) (λ m j i. gone (cell_of f (list_in f) w.web.listed m a j i).0) (no_list f made w.web a n k h low fresh small)
-          (ap (λ (o : Option HeldCell). get_or (links_of o) LEADERS None) here) (subst (λ z. z < 2 ^ 64) (sym (ap (λ (o : Option HeldCell). get_or (numbers_of o) LOW 0) here)) half) w.classed);
+          (ap (λ (o : Option HeldCell). get_or (links_of o) LEADERS None) here) (subst (λ z. z < 2 ^ 64) (sym (ap (λ (o : Option HeldCell). get_or (numbers_of o) LOW 0) here)) half)
+          (subst (λ (o : Option HeldCell). get_or (numbers_of o) KIND 0 ≡ FILED → get_or (numbers_of o) HIGH 0 ≡ 0) (sym here) told) w.classed);
     }
 
 -- What the steps of lists leave
@@ -261,9 +283,15 @@ module _ (f F : ℕ → Option HeldCell) (made : ℕ) (w : IsClassedWeb f made) 
   low_still : (b : ℕ) → number_in F b LOW ≡ number_in f b LOW
   low_still b = low_core (F b) ∙ ap low_by_core (r.cores b) ∙ sym (low_core (f b))
 
+  kind_still : (b : ℕ) → number_in F b KIND ≡ number_in f b KIND
+  kind_still b = number_core (F b) ∙ ap number_by_core (r.cores b) ∙ sym (number_core (f b))
+
+  filing_still : (n : ℕ) → number_in F n KIND ≡ FILED → number_in F n HIGH ≡ 0
+  filing_still n e = ap (λ (q : ℕ × ℕ). q.0) (key_still n) ∙ w.classed.filing n (sym (kind_still n) ∙ e)
+
   -- and a membrane files as it did
   files_still : (n : ℕ) → files F n Atom ≡ files f n Atom
-  files_still n = ap (λ k. k == FILED) (number_core (F n) ∙ ap number_by_core (r.cores n) ∙ sym (number_core (f n)))
+  files_still n = ap (λ k. k == FILED) (kind_still n)
 
   -- the lists as they were have their classes
   pub still_classed : (n : ℕ) → files f n Atom ≡ true → (t : ClassTree) × AreClassed F n (list_in f n Atom) t
@@ -371,6 +399,7 @@ module _ (f F : ℕ → Option HeldCell) (made : ℕ) (w : IsClassedWeb f made) 
   unfiled_classed e = record {
     classes = λ n d. each f F (list_in f) w.web.listed m x h xs r (λ n j us. j ≡ Atom → files F n Atom ≡ true → (t : ClassTree) × AreClassed F n us t)
         (λ s c. absurd (let z : true ≡ false = sym c ∙ files_still m ∙ ap (files f m) (sym s) ∙ e in cc)) (λ n j _ s c. subst (λ i. (t : ClassTree) × AreClassed F n (list_in f n i) t) (sym s) (still_classed n (sym (files_still n) ∙ c))) n Atom refl d;
+    filing = filing_still;
     low = λ b. subst (λ n. n < 2 ^ 64) (sym (low_still b)) (w.classed.low b);
   }
 
@@ -383,6 +412,7 @@ module _ (f F : ℕ → Option HeldCell) (made : ℕ) (w : IsClassedWeb f made) 
         (let other : n ≢ m = λ q. away q (s ∙ sym e) in
         others_classed G zs p filed.touches atoms n other (sym (files_still n) ∙ c) (λ z i k. apart n z other i k))) n Atom refl
         (ap (λ (u : AllButLinks). get_or u.numbers KIND 0 == FILED) (sym (filed.touches.rests n)) ∙ d);
+    filing = λ n d. ap (λ (u : AllButLinks). get_or u.numbers HIGH 0) (filed.touches.rests n) ∙ filing_still n (ap (λ (u : AllButLinks). get_or u.numbers KIND 0) (sym (filed.touches.rests n)) ∙ d);
     low = low_touched G zs p filed.touches atoms;
   }
 

@@ -10,7 +10,8 @@ use Rattle.lmn_web_cells.specs.Runs.{link_in}
 use Rattle.lmn_web_cells.specs.Links.{HOME, LEADERS}
 use Rattle.lmn_web.specs.declared.kind.CellKind.{CellKind}
 use Rattle.lmn_web.specs.Webs.{web_cell, web_with, web_of, list_in, list_link, count_number, number_in, IsLoose}
-use Rattle.lmn_web_cells.specs.Numbers.{INDEX, ARITY, KIND, LOW}
+use Rattle.lmn_web_cells.specs.Numbers.{INDEX, ARITY, KIND, HIGH, LOW}
+use Rattle.lmn_web.specs.Kinds.{FILED}
 use Rattle.lmn_web.specs.Indexes.{numbers_by, AreSized, IsListed, IsWeb, IsClassed}
 use Rattle.lmn_web.proofs.ListedLemmas.{listed_self, listed_beside, web_self, home_same, list_same}
 use Rattle.lmn_web.proofs.WebLemmas.{some_back, partner_same}
@@ -75,7 +76,8 @@ module _ (f : ℕ → Option HeldCell) (made : ℕ) (w : IsWeb f made) (a : ℕ)
   -- with the classes that they had
   pub freed_classed : IsClassed f (list_in f) → IsClassed g (list_in g)
   freed_classed c = classed_self g (list_in f) freed_lists
-      (classed_beside f g a (list_in f) away (λ m k j. in_none f (list_in f) w.listed a homeless m k j) empty (ap (λ (o : Option HeldCell). get_or (links_of o) LEADERS None) gone) (subst (λ (o : Option HeldCell). get_or (numbers_of o) LOW 0 < 2 ^ 64) (sym gone) (omega arith)) c)
+      (classed_beside f g a (list_in f) away (λ m k j. in_none f (list_in f) w.listed a homeless m k j) empty (ap (λ (o : Option HeldCell). get_or (links_of o) LEADERS None) gone) (subst (λ (o : Option HeldCell). get_or (numbers_of o) LOW 0 < 2 ^ 64) (sym gone) (omega arith))
+      (subst (λ (o : Option HeldCell). get_or (numbers_of o) KIND 0 ≡ FILED → get_or (numbers_of o) HIGH 0 ≡ 0) (sym gone) (λ e. refl)) c)
 
   -- and all but that cell stay
   pub freed_is : web_of g ≡ alter (web_of f) a (λ _. None)

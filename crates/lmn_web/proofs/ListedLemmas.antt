@@ -3,6 +3,7 @@ use Rattle.std.proofs.Common.{◌≡◌, ◌≢◌, ◌⊎◌, ℕ, suc, ◌+◌
 use Rattle.std.proofs.lemmas.Bool.{cases_eq, eq-eqb}
 use Rattle.std.specs.Option.{option_map}
 use Rattle.lmn_base.specs.Lists.{In}
+use Rattle.lmn_base.proofs.Lists.{head_is}
 use Rattle.lmn_store_heap.specs.Lists.{Distinct, after, from}
 use Rattle.lmn_store_heap.proofs.ListLemmas.{each_in, each_of, in_split}
 use Rattle.lmn_store_heap.proofs.Trees.{after_split, from_next}
@@ -254,6 +255,22 @@ first_of_list f m e x xs l i n = by (link_in f m e) xs l.runs i
     by first [] r i = absurd i
     by first (u ∷ us) r (inl q) = subst (λ a. from (Some a) (u ∷ us) ≡ u ∷ us) q (front u us)
     by first (u ∷ us) r (inr j) = absurd (run_behind (node_in f) u (node_in f u).next us (link_in f m (e + 1)) r.2 x j n)
+
+-- before the cell at which a list begins there is none
+pub front_alone : (f : ℕ → Option HeldCell) (m e x : ℕ) (xs : List ℕ) → Line f m e xs → link_in f m e ≡ Some x → link_in f x PREV ≡ None
+front_alone f m e x xs l s = by (link_in f m e) xs l.runs s
+  where
+    by : (first : Option ℕ) (us : List ℕ) → RunsThrough (node_in f) None first us (link_in f m (e + 1)) None → first ≡ Some x → link_in f x PREV ≡ None
+    by first [] r s = absurd (let z : ◌≡◌ {A = Option ℕ} None (Some x) = sym r.0 ∙ s in cc)
+    by first (u ∷ us) r s = let z : Some u ≡ Some x = sym r.0 ∙ s in let q : u ≡ x = cc in subst (λ a. link_in f a PREV ≡ None) q r.1
+
+-- a list begins at its first cell
+pub front_is : (f : ℕ → Option HeldCell) (m e x : ℕ) (xs : List ℕ) → Line f m e xs → from (Some x) xs ≡ xs → link_in f m e ≡ Some x
+front_is f m e x xs l s = by (link_in f m e) xs (after x xs) l.runs s
+  where
+    by : (first : Option ℕ) (us rest : List ℕ) → RunsThrough (node_in f) None first us (link_in f m (e + 1)) None → x ∷ rest ≡ us → first ≡ Some x
+    by first [] rest r s = absurd cc
+    by first (u ∷ us) rest r s = r.0 ∙ ap Some (sym (head_is s))
 
 -- an option that is none is told by none
 pub none_told : {X : Type 0} (id : X → ℕ) (o : Option X) → is_some o ≡ false → option_map id o ≡ None

@@ -6,7 +6,7 @@ use Rattle.std.specs.Option.{option_map}
 use Rattle.lmn_base.specs.Lists.{In}
 use Rattle.lmn_base.proofs.Lists.{in_either}
 use Rattle.lmn_store_heap.specs.Heap.{alter}
-use Rattle.lmn_store_heap.specs.Lists.{Distinct, without}
+use Rattle.lmn_store_heap.specs.Lists.{Distinct, from, without}
 use Rattle.lmn_store_heap.proofs.ListLemmas.{each_in, each_of, in_left, in_right, in_without, short}
 use Rattle.lmn_store_heap.proofs.Listing.{alter_at, alter_away, in_without_of}
 use Rattle.lmn_web_cells.specs.Rows.{Row}
@@ -24,7 +24,7 @@ use Rattle.lmn_web.specs.Webs.{WebCell, web_cell, web_with, web_of, web_by, kind
 use Rattle.lmn_web_cells.specs.Numbers.{INDEX, ARITY, KIND, HIGH, LOW, FIRST_MARK}
 use Rattle.lmn_web.specs.Classes.{AllButLinks, all_but_links}
 use Rattle.lmn_web.specs.Indexes.{cell_kind, IsListed, IsWeb}
-use Rattle.lmn_web.proofs.ListedLemmas.{kind_cases, link_behind, links_apart, count_behind, counts_apart, count_below, line_same, listed_self, web_self, home_same, kind_same, list_same, own_line, cell_of}
+use Rattle.lmn_web.proofs.ListedLemmas.{kind_cases, link_behind, links_apart, count_behind, counts_apart, count_below, line_same, listed_self, web_self, home_same, kind_same, list_same, own_line, cell_of, no_atom_by, from_in, front_is}
 use Rattle.lmn_web.proofs.WebLemmas.{some_back, Account, account, eight_by, kept_web, reaches_same, paired_same}
 use Rattle.lmn_base.proofs.Common.{of_map as in_map}
 
@@ -477,6 +477,30 @@ enters_before rows now made e w m a x home kind there free differ =
       free = sym (home_same f (list_in f) x) ∙ subst (λ z. web.home_at (web_by z) x ≡ None) (sym e) free;
       differ = λ s. differ (ap (λ z. web.home_at (web_by z) a) (sym e) ∙ home_same f (list_in f) a ∙ home ∙ ap Some (sym s));
       membrane = λ s. subst (λ us. In a us) (w.listed.bare m (cell_kind f x) s) (before_among rows now made e w m a x home kind);
+    }
+
+-- x is the first in the list of m for its kind
+pub record Begins (f : ℕ → Option HeldCell) (m x : ℕ) (k : CellKind) : Type 0 where
+  pub membrane : cell_kind f m ≡ Atom → ⊥
+  pub inside : In x (list_in f m k)
+  pub kind : k ≡ cell_kind f x
+  pub home : link_in f x HOME ≡ Some m
+  pub begins : link_in f m (list_link k) ≡ Some x
+
+-- what the call for the first of a list asks
+pub firsts : (rows now : List Row) (made : ℕ) → rows ≡ now → IsWeb (cells_by rows) made → (m x : ℕ) (k : CellKind) → kind_at (web_by now) m ≡ Membrane → from (Some x) (cells_in (web_by now) m k) ≡ cells_in (web_by now) m k → Begins (cells_by rows) m x k
+firsts rows now made e w m x k membrane first =
+    let f = cells_by rows in
+    let own : cells_in (web_by rows) m k ≡ list_in f m k = list_same f (list_in f) w.listed m k in
+    let front : from (Some x) (list_in f m k) ≡ list_in f m k = subst (λ us. from (Some x) us ≡ us) own (subst (λ z. from (Some x) (cells_in (web_by z) m k) ≡ cells_in (web_by z) m k) (sym e) first) in
+    let no_atom = no_atom_by f (list_in f) m (subst (λ z. kind_at (web_by z) m ≡ Membrane) (sym e) membrane) in
+    let i : In x (list_in f m k) = from_in (Some x) (list_in f m k) front x refl in
+    record {
+      membrane = no_atom;
+      inside = i;
+      kind = sym (w.listed.kinds m x k i);
+      home = (cell_of f (list_in f) w.listed m x k i).2;
+      begins = front_is f m (list_link k) x (list_in f m k) (w.listed.line m k no_atom) front;
     }
 
 module _ (f F g : ℕ → Option HeldCell) (made : ℕ) (w : IsWeb f made) (m x e p q n : ℕ) (enters : Enters f m x)

@@ -1,5 +1,5 @@
 //! What holds of a small web. Each law is the contract of a function with an empty body.
-ghost use Rattle.lmn_web.specs.Examples.{BothAreGone, BothAreListed, BothAreOfOneClass, FirstIsGone, GoneIsLoose, ListedIsNotLoose, LostAreNotListed, NoneHasTwoPorts, NoneIsOfAnotherClass, OneHasLabel, SecondIsFirst, SecondIsLast, StillThereIsNotGone};
+ghost use Rattle.lmn_web.specs.Examples.{BothAreGone, BothAreListed, BothAreOfOneClass, FarFilesNone, FirstIsGone, GoneIsLoose, ListedIsNotLoose, LostAreNotListed, NearFiles, NoneHasTwoPorts, NoneIsOfAnotherClass, OneHasLabel, SecondIsFirst, SecondIsLast, StillThereIsNotGone};
 
 /// A cell that was added last stands at the end.
 #[tactic(auto, using(crate::proofs::ExampleProofs::second_is_last))]
@@ -77,4 +77,16 @@ pub fn both_are_of_one_class()
 #[tactic(auto, using(crate::proofs::ExampleProofs::none_is_of_another_class))]
 pub fn none_is_of_another_class()
     ensures { NoneIsOfAnotherClass }
+{}
+
+/// A membrane whose label has another class than 0 files no atoms.
+#[tactic(auto, using(crate::proofs::ExampleProofs::far_files_none))]
+pub fn far_files_none()
+    ensures { FarFilesNone }
+{}
+
+/// One whose label has the class 0 files them.
+#[tactic(auto, using(crate::proofs::ExampleProofs::near_files))]
+pub fn near_files()
+    ensures { NearFiles }
 {}

@@ -1,6 +1,6 @@
 //! What a cell stands for.
 ghost use Rattle.std.specs.Prelude.{◌≡◌, ◌<◌, ◌^◌};
-ghost use Rattle.lmn_web.specs.Kinds.{kind_by};
+ghost use Rattle.lmn_web.specs.Kinds.{kind_by, FILED};
 ghost use Rattle.lmn_web.specs.Webs.{list_link, count_number};
 
 use lmn_web_cells::links::{ATOMS, MEMBRANES};
@@ -21,14 +21,15 @@ pub const FILED: u64 = 1;
 /// The number of a membrane whose atoms aren't.
 pub const UNFILED: u64 = 2;
 
-/// The number by which a cell tells its kind. The atoms of a membrane are filed.
-pub fn number_of(kind: CellKind) -> u64
+/// The number by which a cell tells its kind. The atoms of a membrane are filed where its label has this class, which is 0.
+pub fn number_of(kind: CellKind, class: u64) -> u64
     ensures kind { kind_by result ≡ kind }
     ensures small { result < 2 ^ 32 }
+    ensures filed { result ≡ FILED → class ≡ 0 }
 {
     match kind {
         CellKind::Atom => 0,
-        CellKind::Membrane => FILED,
+        CellKind::Membrane => { if class == 0 { FILED } else { UNFILED } }
     }
 }
 

@@ -3,6 +3,7 @@
 
 mod classes;
 pub mod examples;
+mod fronts;
 mod kind;
 mod web;
 

@@ -8,13 +8,14 @@ ghost use Rattle.lmn_web_cells.specs.Cells.{cells_by, numbers_of, ports_of};
 ghost use Rattle.lmn_web_cells.specs.CellIds.{cell_id, port_id};
 ghost use Rattle.lmn_web_cells.specs.Ports.{IsSamePort};
 ghost use Rattle.lmn_web_cells.specs.Runs.{Line};
-ghost use Rattle.lmn_web.specs.Webs.{web_by, partner_at, arity_at, kind_at, home_at, cells_in, list_in, list_link, number_in, partners_of, marks_of, new_cell, with_mark, joined, parted, added_last, added_before, unlinked, web_label, is_labelled, with_label, label_class, with_class, IsPaired, IsLoose, StandOnce, WithoutAtoms};
-ghost use Rattle.lmn_web.specs.Kinds.{kind_by};
+ghost use Rattle.lmn_web.specs.Webs.{web_by, partner_at, arity_at, kind_at, home_at, cells_in, list_in, list_link, number_in, partners_of, marks_of, new_cell, with_mark, joined, parted, added_last, added_before, unlinked, web_label, is_labelled, with_label, label_class, with_class, FilesNone, IsPaired, IsLoose, StandOnce, WithoutAtoms};
+ghost use Rattle.lmn_web.specs.Kinds.{kind_by, FILED};
 ghost use Rattle.lmn_web.specs.Indexes.{described, bare_atoms, AreSized, Without, blank_by, numbers_by};
 ghost use Rattle.lmn_web.specs.declared.kind.CellKind.TheVariants.{Atom, Membrane};
 
 use crate::classes::{enter_class, first_in, is_filed, leave_class, next_in, place_from};
-use crate::kind::{CellKind, UNFILED, count_place, first_link, kind_of, number_of};
+use crate::fronts;
+use crate::kind::{CellKind, count_place, first_link, kind_of, number_of};
 use lmn_web_cells::cell::Cells;
 use lmn_web_cells::handle::Cell;
 use lmn_web_cells::links::{HOME, LEADERS_WORD, NEXT};
@@ -65,31 +66,24 @@ impl Web {
         }
     }
 
-    /// A new cell: no port has a partner, it stands in no list, its lists are empty, and every mark is 0. An error where
-    /// no memory or no index is left, and where a membrane is to have another number of ports than one.
+    /// A new cell: no port has a partner, it stands in no list, its lists are empty, and every mark is 0. A membrane files its
+    /// atoms by class where its label has the class 0; with another one they come and go in fewer steps, and those of a class
+    /// are looked for along its list. An error where no memory or no index is left, and where a membrane is to have another
+    /// number of ports than one.
     #[inline(always)]
     pub fn make(&mut self, label: u128, arity: u8, kind: CellKind) -> Result<Cell, AllocError>
         ensures { MatchResult result
             (λ c. (web_by self.old (cell_id c) ≡ None) × (web_by self.new ≡ alter (web_by self.old) (cell_id c) (λ _. Some (new_cell label arity kind))))
             (λ _. web_by self.new ≡ web_by self.old) }
     {
-        self.make_by(label, arity, number_of(kind))
-    }
-
-    /// A new membrane that doesn't file its atoms by class: they come and go in fewer steps, and those of a class are looked
-    /// for along its list. An error as above.
-    pub fn make_unfiled(&mut self, label: u128, arity: u8) -> Result<Cell, AllocError>
-        ensures { MatchResult result
-            (λ c. (web_by self.old (cell_id c) ≡ None) × (web_by self.new ≡ alter (web_by self.old) (cell_id c) (λ _. Some (new_cell label arity Membrane))))
-            (λ _. web_by self.new ≡ web_by self.old) }
-    {
-        self.make_by(label, arity, UNFILED)
+        self.make_by(label, arity, number_of(kind, (label / WHOLE) as u64))
     }
 
     // A new cell that tells its kind by this number.
     #[inline(always)]
     fn make_by(&mut self, label: u128, arity: u8, kind: u64) -> Result<Cell, AllocError>
-        requires { kind < 2 ^ 32 }
+        requires small { kind < 2 ^ 32 }
+        requires filed { kind ≡ FILED → label_class label ≡ 0 }
         ensures { MatchResult result
             (λ c. (web_by self.old (cell_id c) ≡ None) × (web_by self.new ≡ alter (web_by self.old) (cell_id c) (λ _. Some (new_cell label arity (kind_by kind)))))
             (λ _. web_by self.new ≡ web_by self.old) }
@@ -344,6 +338,22 @@ impl Web {
         enter_class(&mut self.cells, home, filed, None, c);
     }
 
+    /// It goes to the end of a list of a membrane that files no atoms.
+    #[inline(always)]
+    pub fn add_last_unfiled(&mut self, home: Cell, kind: CellKind, c: Cell)
+        requires there { IsSome (web_by self.old (cell_id c)) }
+        requires kind { kind_at (web_by self.old) (cell_id c) ≡ kind }
+        requires homeless { home_at (web_by self.old) (cell_id c) ≡ None }
+        requires membrane { kind_at (web_by self.old) (cell_id home) ≡ Membrane }
+        requires differ { cell_id c ≢ cell_id home }
+        requires files { FilesNone (web_by self.old) (cell_id home) }
+        ensures { web_by self.new ≡ added_last (web_by self.old) (cell_id home) (cell_id c) }
+    {
+        lists::append(&mut self.cells, home, first_link(kind), c);
+        let count = self.cells.count(home, count_place(kind));
+        self.cells.set_count(home, count_place(kind), count + 1);
+    }
+
     /// The cell goes directly before another one of its kind.
     pub fn add_before(&mut self, after: Cell, c: Cell)
         requires there { IsSome (web_by self.old (cell_id c)) }
@@ -378,6 +388,19 @@ impl Web {
             self.cells.set_count(home, count_place(kind), count - 1);
             leave_class(&mut self.cells, home, filed, c);
         }
+    }
+
+    /// The first cell of a list of a membrane that files no atoms leaves it.
+    #[inline(always)]
+    pub fn unlink_first_unfiled(&mut self, home: Cell, kind: CellKind, c: Cell)
+        requires membrane { kind_at (web_by self.old) (cell_id home) ≡ Membrane }
+        requires first { from (Some (cell_id c)) (cells_in (web_by self.old) (cell_id home) kind) ≡ cells_in (web_by self.old) (cell_id home) kind }
+        requires files { FilesNone (web_by self.old) (cell_id home) }
+        ensures { web_by self.new ≡ unlinked (web_by self.old) (cell_id home) (cell_id c) }
+    {
+        fronts::unlink_first(&mut self.cells, home, first_link(kind), c);
+        let count = self.cells.count(home, count_place(kind));
+        self.cells.set_count(home, count_place(kind), count - 1);
     }
 
     /// The mark of a port, or behind the ports the cell's own.

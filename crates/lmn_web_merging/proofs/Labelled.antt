@@ -7,7 +7,7 @@ use Rattle.lmn_base.specs.Lists.{In}
 use Rattle.lmn_store_heap.specs.Heap.{alter}
 use Rattle.lmn_store_heap.specs.Lists.{without}
 use Rattle.lmn_web.specs.declared.kind.CellKind.TheVariants.{Atom, Membrane}
-use Rattle.lmn_web.specs.Webs.{WebCell, kind_at, home_at, arity_at, marks_of, cells_in, is_labelled, with_label, with_mark, relisted, added_last, unlinked, StandOnce, IsPaired}
+use Rattle.lmn_web.specs.Webs.{WebCell, kind_at, home_at, arity_at, marks_of, cells_in, is_labelled, with_label, with_mark, relisted, added_last, unlinked, web_label, FilesNone, StandOnce, IsPaired}
 use Rattle.lmn_web.proofs.FilterLemmas.{filter_same}
 use Rattle.lmn_web.proofs.ListedLemmas.{kind_cases}
 use Rattle.lmn_web_merging.specs.Keepers.{keeper, port_mark, is_retired, seen}
@@ -18,6 +18,14 @@ use Rattle.lmn_web_merging.proofs.Relisting.{seen_relisted, relisted_kept}
 use Rattle.lmn_web_merging.proofs.Writing.{atom_marked_kept, seen_atom_marked, membrane_marked_kept, seen_membrane_marked}
 
 module _ (w : ℕ → Option WebCell) where
+  -- a membrane that never had a keeper keeps its own lists
+  pub keeps_own : AreKept w → (m : ℕ) → kind_at w m ≡ Membrane → port_mark w m ≡ 0 → keeper w m ≡ m
+  keeps_own a m k z = elim (cases_eq (keeper w m) m) [ inl e ↦ e | inr d ↦ absurd (a.told m d k z) ]
+
+  -- and where it files no atoms, its cell doesn't
+  pub files_under : AreKept w → (m : ℕ) → kind_at w m ≡ Membrane → is_retired (w m) ≡ false → port_mark (seen w) m ≡ 0 → FilesNone (seen w) m → FilesNone w (keeper w m)
+  files_under a m k there z none l e = none l (seen_label w m there ∙ ap (web_label w) (sym (keeps_own a m k (sym (seen_port_mark w m k there) ∙ z))) ∙ e)
+
   -- a slot that is seen is one
   pub slot_within : (x i : ℕ) → is_retired (w x) ≡ false → i ≤ arity_at (seen w) x → i ≤ arity_at w x
   slot_within x i there low = elim (kind_cases (kind_at w x) Atom) [
@@ -88,13 +96,10 @@ module _ (w : ℕ → Option WebCell) where
         seen_relisted w r a m x (Some M) all differ tx some ∙ (λ i. relisted (seen w) m x (Some (back w r a m i)) (lists i)),
       )
     where
-      unmarked : (y : ℕ) → kind_at w y ≡ Membrane → port_mark w y ≡ 0 → keeper w y ≡ y
-      unmarked y k z = elim (cases_eq (keeper w y) y) [ inl e ↦ e | inr d ↦ absurd (a.told y d k z) ]
-
       other : x ≢ keeper w m
       other e =
           let kx : kind_at w x ≡ Membrane = ap (kind_at w) e ∙ keeper_kind w r a m km in
           elim (own kx) [
-            | inl z ↦ differ (keepers_differ w r a x m (unmarked x kx (sym (seen_port_mark w x kx tx) ∙ z) ∙ e))
-            | inr z ↦ differ (e ∙ unmarked m km (sym (seen_port_mark w m km tm) ∙ z))
+            | inl z ↦ differ (keepers_differ w r a x m (keeps_own a x kx (sym (seen_port_mark w x kx tx) ∙ z) ∙ e))
+            | inr z ↦ differ (e ∙ keeps_own a m km (sym (seen_port_mark w m km tm) ∙ z))
           ]

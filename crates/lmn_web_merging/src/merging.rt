@@ -6,7 +6,7 @@ ghost use Rattle.lmn_store_heap.specs.Heap.{alter};
 ghost use Rattle.lmn_store_heap.specs.Lists.{after, from};
 ghost use Rattle.lmn_web_cells.specs.CellIds.{cell_id, port_id};
 ghost use Rattle.lmn_web_cells.specs.Ports.{IsSamePort};
-ghost use Rattle.lmn_web.specs.Webs.{web_by, partner_at, arity_at, kind_at, home_at, cells_in, marks_of, new_cell, with_mark, joined, added_last, unlinked, web_label, with_label, IsPaired, IsLoose, StandOnce, WithoutAtoms};
+ghost use Rattle.lmn_web.specs.Webs.{web_by, partner_at, arity_at, kind_at, home_at, cells_in, marks_of, new_cell, with_mark, joined, added_last, unlinked, web_label, with_label, FilesNone, IsPaired, IsLoose, StandOnce, WithoutAtoms};
 ghost use Rattle.lmn_web.specs.declared.kind.CellKind.TheVariants.{Atom, Membrane};
 ghost use Rattle.lmn_web_merging.specs.Keepers.{merged_by, port_mark, LENT, MovesAll};
 
@@ -49,7 +49,8 @@ impl MergingWeb {
         }
     }
 
-    /// A new cell: no port has a partner, it stands in no list, its lists are empty, and every mark is 0.
+    /// A new cell: no port has a partner, it stands in no list, its lists are empty, and every mark is 0. A membrane files its
+    /// atoms by class where its label has the class 0.
     #[inline(always)]
     pub fn make(&mut self, label: u128, arity: u8, kind: CellKind) -> Result<Cell, AllocError>
         requires { kind ≡ Membrane → arity ≡ 0 }
@@ -62,17 +63,6 @@ impl MergingWeb {
             CellKind::Atom => self.web.make(label, arity, CellKind::Atom),
             CellKind::Membrane => self.web.make(label, 1, CellKind::Membrane),
         }
-    }
-
-    /// A new membrane that doesn't file its atoms by class: they come and go in fewer steps, and those of a class are looked
-    /// for along its list.
-    pub fn make_unfiled(&mut self, label: u128) -> Result<Cell, AllocError>
-        ensures { MatchResult result
-            (λ c. (merged_by self.old (cell_id c) ≡ None) × (merged_by self.new ≡ alter (merged_by self.old) (cell_id c) (λ _. Some (new_cell label 0 Membrane))))
-            (λ _. merged_by self.new ≡ merged_by self.old) }
-    {
-        self.web.paired();
-        self.web.make_unfiled(label, 1)
     }
 
     /// The cell doesn't live any more.
@@ -287,7 +277,7 @@ impl MergingWeb {
         self.web.add_last(keeper, kind, c);
     }
 
-    /// It goes to the end of a list of a membrane that never had a keeper.
+    /// It goes to the end of a list of a membrane that never had a keeper, and files no atoms.
     #[inline(always)]
     pub fn add_last_plain(&mut self, home: Cell, kind: CellKind, c: Cell)
         requires there { IsSome (merged_by self.old (cell_id c)) }
@@ -296,12 +286,13 @@ impl MergingWeb {
         requires membrane { kind_at (merged_by self.old) (cell_id home) ≡ Membrane }
         requires differ { cell_id c ≢ cell_id home }
         requires plain { port_mark (merged_by self.old) (cell_id home) ≡ 0 }
+        requires files { FilesNone (merged_by self.old) (cell_id home) }
         ensures { merged_by self.new ≡ added_last (merged_by self.old) (cell_id home) (cell_id c) }
     {
         self.web.listed();
         self.web.paired();
         let keeper = self_kept(&self.web, home);
-        self.web.add_last(keeper, kind, c);
+        self.web.add_last_unfiled(keeper, kind, c);
     }
 
     /// The cell, which is of this kind, leaves its list.
@@ -314,6 +305,21 @@ impl MergingWeb {
         self.web.listed();
         self.web.paired();
         self.web.unlink(kind, c);
+    }
+
+    /// The first cell of a list of a membrane that never had a keeper, and files no atoms, leaves it.
+    #[inline(always)]
+    pub fn unlink_first_plain(&mut self, home: Cell, kind: CellKind, c: Cell)
+        requires membrane { kind_at (merged_by self.old) (cell_id home) ≡ Membrane }
+        requires first { from (Some (cell_id c)) (cells_in (merged_by self.old) (cell_id home) kind) ≡ cells_in (merged_by self.old) (cell_id home) kind }
+        requires plain { port_mark (merged_by self.old) (cell_id home) ≡ 0 }
+        requires files { FilesNone (merged_by self.old) (cell_id home) }
+        ensures { merged_by self.new ≡ unlinked (merged_by self.old) (cell_id home) (cell_id c) }
+    {
+        self.web.listed();
+        self.web.paired();
+        let keeper = self_kept(&self.web, home);
+        self.web.unlink_first_unfiled(keeper, kind, c);
     }
 
     /// The mark of a port of an atom, or behind the ports the cell's own.

@@ -1,9 +1,9 @@
 use Rattle.std.proofs.Common.{ℕ, Some, IsSome, Option, sym, ap, subst, ◌∙◌}
 use Rattle.lmn_web_cells.specs.CellIds.{cell_id}
-use Rattle.lmn_web.specs.Webs.{WebCell, home_at, kind_at, added_last}
+use Rattle.lmn_web.specs.Webs.{WebCell, home_at, kind_at, web_label, added_last}
 use Rattle.lmn_web_merging.specs.Keepers.{merged_by, port_mark}
 use Rattle.lmn_web_merging.proofs.Sending.{home_some, out_kinds, out_there, out_homeless}
-use Rattle.lmn_store_web.proofs.SendLemmas.{out_marks, sends}
+use Rattle.lmn_store_web.proofs.SendLemmas.{out_labels, out_marks, sends}
 use Rattle.lmn_store_web.proofs.sending.send_plain.Goals as goal
 use Rattle.lmn_base.proofs.Lists.{some_is}
 
@@ -36,6 +36,12 @@ add_last_plain-requires-clause-plain c =
     let w = merged_by c.args.web.now in let x = cell_id c.args.c in let n = cell_id c.args.home in
     let h = some_is (home_at w x) c.requires.listed in
     ap (λ (f : ℕ → Option WebCell). port_mark f n) (c.unlink.ensures h.0 h.1) ∙ out_marks w h.0 x n ∙ c.requires.plain
+
+pub add_last_plain-requires-clause-files : goal.add_last_plain-requires-clause-files
+add_last_plain-requires-clause-files c l e =
+    let w = merged_by c.args.web.now in let x = cell_id c.args.c in let n = cell_id c.args.home in
+    let h = some_is (home_at w x) c.requires.listed in
+    c.requires.files l (sym (ap (λ (f : ℕ → Option WebCell). web_label f n) (c.unlink.ensures h.0 h.1) ∙ out_labels w h.0 x n) ∙ e)
 
 pub returns : goal.returns
 returns c m e =

@@ -9,7 +9,7 @@ use Rattle.lmn_web.specs.Webs.{WebCell}
 use Rattle.lmn_web_merging.specs.Keepers.{merged_by}
 use Rattle.lmn_store_web.specs.WebHeaps.{KeptWeb, heap_of, heap_by, atoms_of, mems_of}
 use Rattle.lmn_store_web.specs.WebStores.{IsStored, kept_by}
-use Rattle.lmn_store_web.proofs.MakeLemmas.{new_there, new_kind, new_homeless, new_apart, old_kind, old_mark, made_line, atom_stored, made_atom_heap, made_atom_counts}
+use Rattle.lmn_store_web.proofs.MakeLemmas.{new_there, new_kind, new_homeless, new_apart, old_kind, old_files, old_mark, made_line, atom_stored, made_atom_heap, made_atom_counts}
 use Rattle.lmn_store_heap.specs.Heap.{Heap}
 use Rattle.lmn_web.specs.Webs.{web_label}
 use Rattle.lmn_store_web.specs.Indexes.{key_of}
@@ -34,6 +34,12 @@ add_last_plain-requires-clause-plain c =
     let none = c.in_ok-a.ensures.0 in
     let make = c.in_ok-a.ensures.1 in
     old_mark v u a _ _ _ none make p.waiting inv.waiting ∙ inv.plain p.waiting inv.waiting (inl refl)
+
+pub add_last_plain-requires-clause-files : goal.add_last_plain-requires-clause-files
+add_last_plain-requires-clause-files c =
+    let k = kept_by c.self.inside in
+    let inv = c.self.invariant.store.stored in
+    old_files (merged_by k.web) (merged_by c.make.new.self) (cell_id c.in_ok-a.a) _ _ _ c.in_ok-a.ensures.0 c.in_ok-a.ensures.1 k.posts.waiting inv.waiting (inv.files k.posts.waiting (inl refl))
 
 pub add_last_plain-requires-clause-kind : goal.add_last_plain-requires-clause-kind
 add_last_plain-requires-clause-kind c =

@@ -1,4 +1,4 @@
-use Rattle.std.proofs.Common.{◌≡◌, ◌≢◌, [], ℕ, Option, Some, IsSome, refl, sym, ap, subst, ◌∙◌, inl}
+use Rattle.std.proofs.Common.{◌≡◌, ◌≢◌, [], ℕ, Option, Some, refl, sym, ap, subst, ◌∙◌, inl}
 use Rattle.std.specs.Option.{option_map}
 use Rattle.lmn_store_heap.specs.Lists.{from}
 use Rattle.lmn_store_heap.specs.Heap.{IsMemInPlace, placed}
@@ -21,51 +21,44 @@ unwrap-a-requires c =
     let k = kept_by c.self.inside in
     first_some cell_id c.first_plain.result (cells_in (merged_by k.web) k.posts.waiting Atom) c.first_plain.ensures.list (subst (λ (z : KeptWeb). (heap_of z).new_atoms ≢ []) (sym c.self.view_is) c.requires.waiting)
 
-pub send-requires-clause-listed : goal.send-requires-clause-listed
-send-requires-clause-listed c =
-    let k = kept_by c.self.inside in let w = merged_by k.web in let x = cell_id c.unwrap-a.result in let n = cell_id c.args.m in
-    let first : from (Some x) (cells_in w k.posts.waiting Atom) ≡ cells_in w k.posts.waiting Atom = subst (λ o. from (option_map cell_id o) (cells_in w k.posts.waiting Atom) ≡ cells_in w k.posts.waiting Atom) c.unwrap-a.ensures c.first_plain.ensures.list in
-    let q = placing k.posts k.table w c.self.invariant.store.stored c.listed.ensures Atom x n first (subst (λ (z : KeptWeb). IsMemInPlace (heap_of z) n) (sym c.self.view_is) c.requires.mem) in
-    subst (λ (o : Option ℕ). IsSome o) (sym q.home) refl
-
-pub send-requires-clause-membrane : goal.send-requires-clause-membrane
-send-requires-clause-membrane c =
+pub send_first-requires-clause-membrane : goal.send_first-requires-clause-membrane
+send_first-requires-clause-membrane c =
     let k = kept_by c.self.inside in let w = merged_by k.web in let x = cell_id c.unwrap-a.result in let n = cell_id c.args.m in
     let first : from (Some x) (cells_in w k.posts.waiting Atom) ≡ cells_in w k.posts.waiting Atom = subst (λ o. from (option_map cell_id o) (cells_in w k.posts.waiting Atom) ≡ cells_in w k.posts.waiting Atom) c.unwrap-a.ensures c.first_plain.ensures.list in
     let q = placing k.posts k.table w c.self.invariant.store.stored c.listed.ensures Atom x n first (subst (λ (z : KeptWeb). IsMemInPlace (heap_of z) n) (sym c.self.view_is) c.requires.mem) in
     q.membrane
 
-pub send-requires-clause-kind : goal.send-requires-clause-kind
-send-requires-clause-kind c =
+pub send_first-requires-clause-own : goal.send_first-requires-clause-own
+send_first-requires-clause-own c e = absurd (let z : Atom ≡ Membrane = e in cc)
+
+pub send_first-requires-clause-line : goal.send_first-requires-clause-line
+send_first-requires-clause-line c = c.self.invariant.store.stored.waiting
+
+pub send_first-requires-clause-first : goal.send_first-requires-clause-first
+send_first-requires-clause-first c =
+    let k = kept_by c.self.inside in let w = merged_by k.web in
+    subst (λ o. from (option_map cell_id o) (cells_in w k.posts.waiting Atom) ≡ cells_in w k.posts.waiting Atom) c.unwrap-a.ensures c.first_plain.ensures.list
+
+pub send_first-requires-clause-plain : goal.send_first-requires-clause-plain
+send_first-requires-clause-plain c = c.self.invariant.store.stored.plain (kept_by c.self.inside).posts.waiting c.self.invariant.store.stored.waiting (inl refl)
+
+pub send_first-requires-clause-files : goal.send_first-requires-clause-files
+send_first-requires-clause-files c = c.self.invariant.store.stored.files (kept_by c.self.inside).posts.waiting (inl refl)
+
+pub send_first-requires-clause-apart : goal.send_first-requires-clause-apart
+send_first-requires-clause-apart c =
     let k = kept_by c.self.inside in let w = merged_by k.web in let x = cell_id c.unwrap-a.result in let n = cell_id c.args.m in
     let first : from (Some x) (cells_in w k.posts.waiting Atom) ≡ cells_in w k.posts.waiting Atom = subst (λ o. from (option_map cell_id o) (cells_in w k.posts.waiting Atom) ≡ cells_in w k.posts.waiting Atom) c.unwrap-a.ensures c.first_plain.ensures.list in
     let q = placing k.posts k.table w c.self.invariant.store.stored c.listed.ensures Atom x n first (subst (λ (z : KeptWeb). IsMemInPlace (heap_of z) n) (sym c.self.view_is) c.requires.mem) in
-    q.kind
-
-pub send-requires-clause-differ : goal.send-requires-clause-differ
-send-requires-clause-differ c =
-    let k = kept_by c.self.inside in let w = merged_by k.web in let x = cell_id c.unwrap-a.result in let n = cell_id c.args.m in
-    let first : from (Some x) (cells_in w k.posts.waiting Atom) ≡ cells_in w k.posts.waiting Atom = subst (λ o. from (option_map cell_id o) (cells_in w k.posts.waiting Atom) ≡ cells_in w k.posts.waiting Atom) c.unwrap-a.ensures c.first_plain.ensures.list in
-    let q = placing k.posts k.table w c.self.invariant.store.stored c.listed.ensures Atom x n first (subst (λ (z : KeptWeb). IsMemInPlace (heap_of z) n) (sym c.self.view_is) c.requires.mem) in
-    q.differ
-
-pub send-requires-clause-elsewhere : goal.send-requires-clause-elsewhere
-send-requires-clause-elsewhere c =
-    let k = kept_by c.self.inside in let w = merged_by k.web in let x = cell_id c.unwrap-a.result in let n = cell_id c.args.m in
-    let first : from (Some x) (cells_in w k.posts.waiting Atom) ≡ cells_in w k.posts.waiting Atom = subst (λ o. from (option_map cell_id o) (cells_in w k.posts.waiting Atom) ≡ cells_in w k.posts.waiting Atom) c.unwrap-a.ensures c.first_plain.ensures.list in
-    let q = placing k.posts k.table w c.self.invariant.store.stored c.listed.ensures Atom x n first (subst (λ (z : KeptWeb). IsMemInPlace (heap_of z) n) (sym c.self.view_is) c.requires.mem) in
-    q.elsewhere
-
-pub send-requires-clause-own : goal.send-requires-clause-own
-send-requires-clause-own c e = absurd (let z : Atom ≡ Membrane = e in cc)
+    (q.differ, λ e. q.no_line (sym e))
 
 pub invariant_of-self : goal.invariant_of-self
 invariant_of-self c =
     let k = kept_by c.self.inside in let w = merged_by k.web in let x = cell_id c.unwrap-a.result in let n = cell_id c.args.m in
     let first : from (Some x) (cells_in w k.posts.waiting Atom) ≡ cells_in w k.posts.waiting Atom = subst (λ o. from (option_map cell_id o) (cells_in w k.posts.waiting Atom) ≡ cells_in w k.posts.waiting Atom) c.unwrap-a.ensures c.first_plain.ensures.list in
     let q = placing k.posts k.table w c.self.invariant.store.stored c.listed.ensures Atom x n first (subst (λ (z : KeptWeb). IsMemInPlace (heap_of z) n) (sym c.self.view_is) c.requires.mem) in
-    let v = merged_by c.send.new.web in
-    let s = c.send.ensures k.posts.waiting q.home in
+    let v = merged_by c.send_first.new.web in
+    let s = c.send_first.ensures in
     let t = placed_heap k.posts k.table w v n x s c.self.invariant.store.stored.waiting q.no_line q.no_end q.kind first in
     record {
       store = record {
@@ -86,8 +79,8 @@ returns-clause-placed c =
     let k = kept_by c.self.inside in let w = merged_by k.web in let x = cell_id c.unwrap-a.result in let n = cell_id c.args.m in
     let first : from (Some x) (cells_in w k.posts.waiting Atom) ≡ cells_in w k.posts.waiting Atom = subst (λ o. from (option_map cell_id o) (cells_in w k.posts.waiting Atom) ≡ cells_in w k.posts.waiting Atom) c.unwrap-a.ensures c.first_plain.ensures.list in
     let q = placing k.posts k.table w c.self.invariant.store.stored c.listed.ensures Atom x n first (subst (λ (z : KeptWeb). IsMemInPlace (heap_of z) n) (sym c.self.view_is) c.requires.mem) in
-    let v = merged_by c.send.new.web in
-    placed_heap k.posts k.table w v n x (c.send.ensures k.posts.waiting q.home) c.self.invariant.store.stored.waiting q.no_line q.no_end q.kind first
+    let v = merged_by c.send_first.new.web in
+    placed_heap k.posts k.table w v n x (c.send_first.ensures) c.self.invariant.store.stored.waiting q.no_line q.no_end q.kind first
     ∙ ap (λ (z : KeptWeb). placed (heap_of z) n x) c.self.view_is
 
 pub first_plain-requires-clause-membrane : goal.first_plain-requires-clause-membrane

@@ -45,6 +45,9 @@ send_plain-requires-clause-elsewhere c =
     let q = taking k.posts k.table w c.self.invariant.store.stored c.listed.ensures x h.0 i.1 i.2 i.3 in
     q.elsewhere
 
+pub send_plain-requires-clause-files : goal.send_plain-requires-clause-files
+send_plain-requires-clause-files c = c.self.invariant.store.stored.files (kept_by c.self.inside).posts.gone (inr refl)
+
 pub send_plain-requires-clause-plain : goal.send_plain-requires-clause-plain
 send_plain-requires-clause-plain c = c.self.invariant.store.stored.plain (kept_by c.self.inside).posts.gone c.self.invariant.store.stored.gone (inr (inl refl))
 

@@ -33,6 +33,9 @@ unwrap-home-requires c =
     let i = mem_in_place k.posts k.table w c.self.invariant.store.stored c.listed.ensures x h.0 h.1 in
     some_of cell_id c.home.result (subst (λ (o : Option ℕ). IsSome o) (sym i.1 ∙ c.home.ensures) refl)
 
+pub send_plain-requires-clause-files : goal.send_plain-requires-clause-files
+send_plain-requires-clause-files c = c.self.invariant.store.stored.files (kept_by c.self.inside).posts.gone (inr refl)
+
 pub send_plain-requires-clause-plain : goal.send_plain-requires-clause-plain
 send_plain-requires-clause-plain c = c.self.invariant.store.stored.plain (kept_by c.self.inside).posts.gone c.self.invariant.store.stored.gone (inr (inl refl))
 

@@ -24,7 +24,7 @@ invariant_of-self-2 c =
     let once : cells_by c.describe.new.cells ≡ alter f a (λ _. Some (described made n k h low (blank_by k n))) = made_once f _ _ a (blank_by k n) _ c.in_ok-c.ensures.1 c.describe.ensures in
     let next : c.in-Some.made ≡ made + 1 = c.in-Some.ensures.1 in
     subst (λ (g : ℕ → Option HeldCell). IsClassedWeb g c.in-Some.made) (sym once) (subst (IsClassedWeb (alter f a (λ _. Some (described made n k h low (blank_by k n))))) (sym next)
-    (made_classed f made c.self.invariant a n k h low c.in_ok-c.ensures.0 small (omega arith)))
+    (made_classed f made c.self.invariant a n k h low c.in_ok-c.ensures.0 small (omega arith) c.requires.filed))
 
 pub returns : goal.returns
 returns c =
