@@ -1,6 +1,6 @@
 -- The lists of a web: how they are read off its cells, and which changes keep them.
-use Rattle.std.proofs.Common.{◌≡◌, ◌≢◌, ◌⊎◌, ℕ, suc, ◌+◌, ◌<◌, Bool, true, false, List, [], ◌∷◌, ◌++◌, length, get_or, Option, Some, None, IsSome, IfSome, MatchOption, is_some, refl, sym, ap, subst, ◌∙◌, inl, inr, arith}
-use Rattle.std.proofs.lemmas.Bool.{cases_eq, eq-eqb}
+use Rattle.std.proofs.Common.{◌≡◌, ◌≢◌, ◌⊎◌, ℕ, suc, ◌+◌, ◌<◌, ◌==◌, Bool, true, false, if◌then◌else◌, List, [], ◌∷◌, ◌++◌, length, get_or, Option, Some, None, IsSome, IfSome, MatchOption, is_some, refl, sym, ap, subst, ◌∙◌, inl, inr, arith}
+use Rattle.std.proofs.lemmas.Bool.{cases_eq, eq-eqb, eqb-true}
 use Rattle.std.specs.Option.{option_map}
 use Rattle.lmn_base.specs.Lists.{In}
 use Rattle.lmn_base.proofs.Lists.{head_is}
@@ -27,6 +27,14 @@ kind_cases Atom Atom = inl refl
 kind_cases Atom Membrane = inr (λ e. absurd cc)
 kind_cases Membrane Atom = inr (λ e. absurd cc)
 kind_cases Membrane Membrane = inl refl
+
+-- an atom tells its kind by 0
+pub atom_number : (n : ℕ) → kind_by n ≡ Atom → n ≡ 0
+atom_number n e = by (n == 0) refl e
+  where
+    by : (b : Bool) → (n == 0) ≡ b → (if b then Atom else Membrane) ≡ Atom → n ≡ 0
+    by true q e = eqb-true n 0 q
+    by false q e = absurd (let z : Membrane ≡ Atom = e in cc)
 
 -- the ends of a list are behind the links of its cells
 pub link_behind : (k : CellKind) → PREV < list_link k

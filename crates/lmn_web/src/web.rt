@@ -469,11 +469,21 @@ fn free_cell(cells: &mut Cells, c: Cell)
 {
     let kind = cells.number(c, KIND);
     if kind == 0 {
-        let ports = cells.number(c, ARITY);
-        cells.free(c, ports as usize);
+        free_atom(cells, c);
     } else {
         cells.free_membrane(c);
     }
+}
+
+// The cell of an atom is freed.
+fn free_atom(cells: &mut Cells, c: Cell)
+    requires there { IsSome (cells_by cells.old (cell_id c)) }
+    requires arity { number_in (cells_by cells.old) (cell_id c) ARITY ≡ length (ports_of (cells_by cells.old (cell_id c))) }
+    requires numbers { length (numbers_of (cells_by cells.old (cell_id c))) ≡ 6 }
+    ensures { cells_by cells.new ≡ alter (cells_by cells.old) (cell_id c) (λ _. None) }
+{
+    let ports = cells.number(c, ARITY);
+    cells.free(c, ports as usize);
 }
 
 // The atoms of a membrane are freed, and nothing else is written.
@@ -481,12 +491,13 @@ fn free_list(cells: &mut Cells, m: Cell)
     requires there { IsSome (cells_by cells.old (cell_id m)) }
     requires sized { AreSized (cells_by cells.old) }
     requires line { let f = cells_by cells.old in Line f (cell_id m) (list_link Atom) (list_in f (cell_id m) Atom) }
+    requires atoms { let f = cells_by cells.old in (a : ℕ) → In a (list_in f (cell_id m) Atom) → number_in f a KIND ≡ 0 }
     ensures { Without (cells_by cells.old) (cells_by cells.new) (list_in (cells_by cells.old) (cell_id m) Atom) }
 {
     let mut at = cells.link(m, first_link(CellKind::Atom));
     while let Some(c) = at {
         let next = cells.link(c, NEXT);
-        free_cell(cells, c);
+        free_atom(cells, c);
         at = next;
     }
 }

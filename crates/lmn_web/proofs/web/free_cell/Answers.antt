@@ -6,11 +6,8 @@ use Rattle.lmn_web.proofs.web.free_cell.Goals as goal
 eight : (k : ℕ) → (k ≡ 0 → ⊥) → numbers_by k ≡ 8
 eight k d = ap (λ (t : Bool). if t then 6 else 8) (not_equal k 0 d)
 
-pub free-requires-clause-numbers : goal.free-requires-clause-numbers
-free-requires-clause-numbers c = c.requires.numbers ∙ ap numbers_by (sym c.number-kind.ensures ∙ c.if-kind-eq0.true)
-
-pub free-requires-clause-ports : goal.free-requires-clause-ports
-free-requires-clause-ports c = sym c.requires.arity ∙ sym c.number-ports.ensures
+pub free_atom-requires-clause-numbers : goal.free_atom-requires-clause-numbers
+free_atom-requires-clause-numbers c = c.requires.numbers ∙ ap numbers_by (sym c.number-kind.ensures ∙ c.if-kind-eq0.true)
 
 pub free_membrane-requires-clause-numbers : goal.free_membrane-requires-clause-numbers
 free_membrane-requires-clause-numbers c = c.requires.numbers ∙ ap numbers_by (sym c.number-kind.ensures) ∙ eight c.number-kind.result c.if-kind-eq0.false

@@ -4,7 +4,7 @@ use Rattle.lmn_store_heap.specs.Lists.{from}
 use Rattle.lmn_web_cells.specs.Cells.{HeldCell, cells_by, numbers_of, ports_of}
 use Rattle.lmn_web_cells.specs.CellIds.{cell_id}
 use Rattle.lmn_web_cells.specs.Runs.{link_in}
-use Rattle.lmn_web_cells.specs.Numbers.{ARITY, KIND}
+use Rattle.lmn_web_cells.specs.Numbers.{ARITY}
 use Rattle.lmn_web.specs.declared.kind.CellKind.TheVariants.{Atom}
 use Rattle.lmn_web.specs.Webs.{list_in}
 use Rattle.lmn_web.specs.Indexes.{numbers_by}
@@ -22,31 +22,31 @@ link-next-requires-clause-there c =
     let s : Frees f g xs (Some x) = subst (λ o. Frees f g xs (option_map cell_id o)) c.in-Some.is c.loop-at.invariant in
     (next_comes f m 3 xs c.requires.line g x s).there
 
-pub free_cell-requires-clause-there : goal.free_cell-requires-clause-there
-free_cell-requires-clause-there c =
+pub free_atom-requires-clause-there : goal.free_atom-requires-clause-there
+free_atom-requires-clause-there c =
     let f = cells_by c.args.cells.now in let m = cell_id c.args.m in let xs = list_in f m Atom in let g = cells_by c.loop-at.cells in let x = cell_id c.in-Some.c in
     let s : Frees f g xs (Some x) = subst (λ o. Frees f g xs (option_map cell_id o)) c.in-Some.is c.loop-at.invariant in
     (next_comes f m 3 xs c.requires.line g x s).there
 
-pub free_cell-requires-clause-arity : goal.free_cell-requires-clause-arity
-free_cell-requires-clause-arity c =
+pub free_atom-requires-clause-arity : goal.free_atom-requires-clause-arity
+free_atom-requires-clause-arity c =
     let f = cells_by c.args.cells.now in let m = cell_id c.args.m in let xs = list_in f m Atom in let g = cells_by c.loop-at.cells in let x = cell_id c.in-Some.c in
     let s : Frees f g xs (Some x) = subst (λ o. Frees f g xs (option_map cell_id o)) c.in-Some.is c.loop-at.invariant in
     let next = next_comes f m 3 xs c.requires.line g x s in
     subst (λ (o : Option HeldCell). IsSome o → get_or (numbers_of o) ARITY 0 ≡ length (ports_of o)) (sym next.same) (c.requires.sized.arity x) next.there
 
-pub free_cell-requires-clause-numbers : goal.free_cell-requires-clause-numbers
-free_cell-requires-clause-numbers c =
+pub free_atom-requires-clause-numbers : goal.free_atom-requires-clause-numbers
+free_atom-requires-clause-numbers c =
     let f = cells_by c.args.cells.now in let m = cell_id c.args.m in let xs = list_in f m Atom in let g = cells_by c.loop-at.cells in let x = cell_id c.in-Some.c in
     let s : Frees f g xs (Some x) = subst (λ o. Frees f g xs (option_map cell_id o)) c.in-Some.is c.loop-at.invariant in
     let next = next_comes f m 3 xs c.requires.line g x s in
-    subst (λ (o : Option HeldCell). IsSome o → length (numbers_of o) ≡ numbers_by (get_or (numbers_of o) KIND 0)) (sym next.same) (c.requires.sized.numbers x) next.there
+    subst (λ (o : Option HeldCell). IsSome o → length (numbers_of o) ≡ 6) (sym next.same) (λ t. c.requires.sized.numbers x t ∙ ap numbers_by (c.requires.atoms x next.listed)) next.there
 
 pub loop-at-preserved : goal.loop-at-preserved
 loop-at-preserved c =
-    let f = cells_by c.args.cells.now in let m = cell_id c.args.m in let xs = list_in f m Atom in let g = cells_by c.loop-at.cells in let x = cell_id c.in-Some.c in let v = cells_by c.free_cell.new.cells in
+    let f = cells_by c.args.cells.now in let m = cell_id c.args.m in let xs = list_in f m Atom in let g = cells_by c.loop-at.cells in let x = cell_id c.in-Some.c in let v = cells_by c.free_atom.new.cells in
     let s : Frees f g xs (Some x) = subst (λ o. Frees f g xs (option_map cell_id o)) c.in-Some.is c.loop-at.invariant in
-    subst (Frees f v xs) c.link-next.ensures (frees_next f m 3 xs c.requires.line g v x c.free_cell.ensures s)
+    subst (Frees f v xs) c.link-next.ensures (frees_next f m 3 xs c.requires.line g v x c.free_atom.ensures s)
 
 pub loop-at-smaller : goal.loop-at-smaller
 loop-at-smaller c =

@@ -10,7 +10,7 @@ use Rattle.lmn_web_cells.specs.Ports.{partner_in}
 use Rattle.lmn_web.specs.declared.kind.CellKind.TheVariants.{Atom, Membrane}
 use Rattle.lmn_web.specs.Webs.{WithoutAtoms, web_by, web_of, kind_at, cells_in, partner_at, list_in, number_in}
 use Rattle.lmn_web.specs.Indexes.{bare_atoms, cell_kind}
-use Rattle.lmn_web.proofs.ListedLemmas.{cell_of, no_atom_by}
+use Rattle.lmn_web.proofs.ListedLemmas.{atom_number, cell_of, no_atom_by}
 use Rattle.lmn_web.proofs.FreeLemmas.{web_sized}
 use Rattle.lmn_web.proofs.EmptyLemmas.{Emptied, emptied, closed_cells, empty_is, empty_web, empty_classed, membrane_there}
 use Rattle.lmn_web.proofs.WebLemmas.{eight_by}
@@ -28,6 +28,9 @@ pub free_list-requires-clause-line : goal.free_list-requires-clause-line
 free_list-requires-clause-line c =
     let f = cells_by c.self.inside.cells in let m = cell_id c.args.home in
     c.self.invariant.web.listed.line m Atom (no_atom_by f (list_in f) m (subst (λ (z : List Row). kind_at (web_by z) m ≡ Membrane) (sym c.self.view_is) c.requires.membrane))
+
+pub free_list-requires-clause-atoms : goal.free_list-requires-clause-atoms
+free_list-requires-clause-atoms c a i = atom_number (number_in (cells_by c.self.inside.cells) a KIND) (c.self.invariant.web.listed.kinds (cell_id c.args.home) a Atom i)
 
 pub forget_atoms-requires-clause-there : goal.forget_atoms-requires-clause-there
 forget_atoms-requires-clause-there c =
