@@ -165,10 +165,6 @@ first_least a m l = elim (le_or_less a m) [
   | inr w ↦ (let u : m ≤ min a m = le-min (omega (arith, w)) (omega arith) in absurd (omega (arith, u, l)))
 ]
 
--- with the root counted, items and as many more and one for each instruction are a product
-pub roomy : (items many size all most : ℕ) → all ≡ items + 1 → most ≡ all * (many + 1) → most ≤ size + 1 → items + many * (items + 1) ≤ size
-roomy items many size all most a m l = let p : most ≡ (items + 1) * (many + 1) = m ∙ ap (λ k. k * (many + 1)) a in omega (arith, l, p)
-
 -- a number and the smaller one of it and the largest number are both below a smaller bound, or neither is
 pub few_both : (n cost size : ℕ) → size < 2 ^ 64 - 1 → cost ≡ min n (2 ^ 64 - 1) → (cost ≤ size) ↔ (n ≤ size)
 few_both n cost size small e = (
