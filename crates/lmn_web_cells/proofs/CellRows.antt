@@ -4,11 +4,11 @@ use Rattle.std.proofs.lemmas.Bool.{cases_eq}
 use Rattle.std.specs.Option.{option_map}
 use denote.RawPtr.{Ptr, null_ptr}
 use Rattle.lmn_web_cells.specs.Rows.{Item, blank, link, number, halves_in, with_half, half_at, with_half_at, Row, items_in, with_items, place_ptr}
-use Rattle.lmn_web_cells.specs.Cells.{HeldPort, HeldCell, pointer_to, link_to, link_items, first_items, cell_items, cell_by, cells_by, IsShaped, IsLaid, AreLaid, HaveLinks, links_of, numbers_of, ports_of, no_port, with_link, with_number, with_to, with_port, with_mark}
+use Rattle.lmn_web_cells.specs.Cells.{HeldPort, HeldCell, pointer_to, link_to, link_items, first_items, port_and_mark, cell_items, cell_by, cells_by, IsShaped, IsLaid, AreLaid, HaveFewPorts, HaveLinks, links_of, numbers_of, ports_of, no_port, with_link, with_number, with_to, with_port, with_mark}
 use Rattle.lmn_store_heap.specs.Heap.{alter}
 use Rattle.lmn_store_heap.proofs.Listing.{alter_at, alter_away}
 use Rattle.lmn_web_cells.specs.CellIds.{IsLink, led_by}
-use Rattle.lmn_web_cells.proofs.CellWords.{place_again, end_of, some_numbers, one_port, cell_back, ports_at, set_ports_at, port_word_at, set_to_at, set_port_at, set_mark_at, word_count, small_number_at, set_small_number_at, first_number_at, set_first_number_at, last_number_word, set_last_number_word, first_link_at, set_first_link_at, last_link_word, set_last_link_word}
+use Rattle.lmn_web_cells.proofs.CellWords.{place_again, end_of, some_numbers, one_port, cell_back, ports_at, set_ports_at, port_word_at, set_to_at, set_port_at, set_mark_at, narrow_set, port_in, mark_in, word_count, small_number_at, set_small_number_at, first_number_at, set_first_number_at, last_number_word, set_last_number_word, first_link_at, set_first_link_at, last_link_word, set_last_link_word}
 pub use Rattle.lmn_web_rows.proofs.Lookups.{if_yes, items_same, items_away}
 
 -- what isn't none in a list is one of it
@@ -54,10 +54,10 @@ word_is rows b k laid there low =
 
 -- the last one of a membrane's
 pub last_word_is : (rows : List Row) (b : ℕ) (laid : AreLaid rows) (there : IsSome (cells_by rows b)) → length (numbers_of (cells_by rows b)) ≡ 8
-    → get_or (items_in rows b) 17 blank ≡ link_to (get_or (links_of (cells_by rows b)) 7 None)
+    → get_or (items_in rows b) 16 blank ≡ link_to (get_or (links_of (cells_by rows b)) 7 None)
 last_word_is rows b laid there eight =
     let f = found rows b laid there in
-    ap (λ is. get_or is 17 blank) f.words ∙ last_link_word f.cell f.shaped (sym (ap (λ (o : Option HeldCell). length (numbers_of o)) f.is) ∙ eight)
+    ap (λ is. get_or is 16 blank) f.words ∙ last_link_word f.cell f.shaped (sym (ap (λ (o : Option HeldCell). length (numbers_of o)) f.is) ∙ eight)
     ∙ ap (λ (o : Option HeldCell). link_to (get_or (links_of o) 7 None)) (sym f.is)
 
 -- the pointer in a word, if it is one
@@ -111,41 +111,54 @@ number_is rows b k laid there high low =
 
 -- that of one of the last numbers of a membrane
 pub count_is : (rows : List Row) (b k : ℕ) (laid : AreLaid rows) (there : IsSome (cells_by rows b)) → length (numbers_of (cells_by rows b)) ≡ 8 → 6 ≤ k → k < 8
-    → get_or (items_in rows b) (15 + k - 6) blank ≡ number (get_or (numbers_of (cells_by rows b)) k 0)
+    → get_or (items_in rows b) (14 + k - 6) blank ≡ number (get_or (numbers_of (cells_by rows b)) k 0)
 count_is rows b k laid there eight h low =
     let f = found rows b laid there in
-    ap (λ is. get_or is (15 + k - 6) blank) f.words ∙ last_number_word f.cell f.shaped (sym (ap (λ (o : Option HeldCell). length (numbers_of o)) f.is) ∙ eight) k h low
+    ap (λ is. get_or is (14 + k - 6) blank) f.words ∙ last_number_word f.cell f.shaped (sym (ap (λ (o : Option HeldCell). length (numbers_of o)) f.is) ∙ eight) k h low
     ∙ ap (λ (o : Option HeldCell). number (get_or (numbers_of o) k 0)) (sym f.is)
 
 -- Ports
 
 -- the word that says where a port leads
 pub to_is : (rows : List Row) (b j : ℕ) (laid : AreLaid rows) (there : IsSome (cells_by rows b)) → j < length (ports_of (cells_by rows b))
-    → get_or (items_in rows b) (12 + (j * 3 + 0)) blank ≡ link_to (get_or (ports_of (cells_by rows b)) j no_port).to
+    → get_or (items_in rows b) (12 + (j * 2 + 0)) blank ≡ link_to (get_or (ports_of (cells_by rows b)) j no_port).to
 to_is rows b j laid there low =
     let f = found rows b laid there in
-    ap (λ is. get_or is (12 + (j * 3 + 0)) blank) f.words ∙ ports_at f.cell f.shaped (j * 3 + 0) ∙ port_word_at f.cell.ports j 0 (end_of f.cell) (omega arith) (subst (λ (o : Option HeldCell). j < length (ports_of o)) f.is low)
+    ap (λ is. get_or is (12 + (j * 2 + 0)) blank) f.words ∙ ports_at f.cell f.shaped (j * 2 + 0) ∙ port_word_at f.cell.ports j 0 (end_of f.cell) (omega arith) (subst (λ (o : Option HeldCell). j < length (ports_of o)) f.is low)
     ∙ ap (λ (o : Option HeldCell). link_to (get_or (ports_of o) j no_port).to) (sym f.is)
 
--- the word of the port there
-pub port_is : (rows : List Row) (b j : ℕ) (laid : AreLaid rows) (there : IsSome (cells_by rows b)) → j < length (ports_of (cells_by rows b))
-    → get_or (items_in rows b) (12 + (j * 3 + 1)) blank ≡ number (get_or (ports_of (cells_by rows b)) j no_port).port
-port_is rows b j laid there low =
+-- the word of the port there and of the mark
+pub port_and_mark_is : (rows : List Row) (b j : ℕ) (laid : AreLaid rows) (there : IsSome (cells_by rows b)) → j < length (ports_of (cells_by rows b))
+    → get_or (items_in rows b) (12 + (j * 2 + 1)) blank ≡ number (port_and_mark (get_or (ports_of (cells_by rows b)) j no_port))
+port_and_mark_is rows b j laid there low =
     let f = found rows b laid there in
-    ap (λ is. get_or is (12 + (j * 3 + 1)) blank) f.words ∙ ports_at f.cell f.shaped (j * 3 + 1) ∙ port_word_at f.cell.ports j 1 (end_of f.cell) (omega arith) (subst (λ (o : Option HeldCell). j < length (ports_of o)) f.is low)
-    ∙ ap (λ (o : Option HeldCell). number (get_or (ports_of o) j no_port).port) (sym f.is)
+    ap (λ is. get_or is (12 + (j * 2 + 1)) blank) f.words ∙ ports_at f.cell f.shaped (j * 2 + 1) ∙ port_word_at f.cell.ports j 1 (end_of f.cell) (omega arith) (subst (λ (o : Option HeldCell). j < length (ports_of o)) f.is low)
+    ∙ ap (λ (o : Option HeldCell). number (port_and_mark (get_or (ports_of o) j no_port))) (sym f.is)
 
--- the word of the mark of a port
-pub mark_is : (rows : List Row) (b j : ℕ) (laid : AreLaid rows) (there : IsSome (cells_by rows b)) → j < length (ports_of (cells_by rows b))
-    → get_or (items_in rows b) (12 + (j * 3 + 2)) blank ≡ number (get_or (ports_of (cells_by rows b)) j no_port).mark
-mark_is rows b j laid there low =
-    let f = found rows b laid there in
-    ap (λ is. get_or is (12 + (j * 3 + 2)) blank) f.words ∙ ports_at f.cell f.shaped (j * 3 + 2) ∙ port_word_at f.cell.ports j 2 (end_of f.cell) (omega arith) (subst (λ (o : Option HeldCell). j < length (ports_of o)) f.is low)
-    ∙ ap (λ (o : Option HeldCell). number (get_or (ports_of o) j no_port).mark) (sym f.is)
+-- the port and the mark in what was read of it
+pub narrow_port : (rows : List Row) (b j : ℕ) (laid : AreLaid rows) (there : IsSome (cells_by rows b)) → (get_or (ports_of (cells_by rows b)) j no_port).port < 256
+narrow_port rows b j laid there = let f = found rows b laid there in subst (λ (o : Option HeldCell). (get_or (ports_of o) j no_port).port < 256) (sym f.is) (f.shaped.narrow j)
 
--- fewer than 2 ^ 16 ports, and their words are below 2 ^ 32
-pub low_port : (rows : List Row) (b j : ℕ) (laid : AreLaid rows) (there : IsSome (cells_by rows b)) → j < length (ports_of (cells_by rows b)) → j < 2 ^ 16
+pub port_read : (rows : List Row) (b j n : ℕ) (laid : AreLaid rows) (there : IsSome (cells_by rows b)) → n ≡ port_and_mark (get_or (ports_of (cells_by rows b)) j no_port) → n % 256 ≡ (get_or (ports_of (cells_by rows b)) j no_port).port
+port_read rows b j n laid there e = let p = get_or (ports_of (cells_by rows b)) j no_port in ap (λ m. m % 256) e ∙ port_in p.mark p.port (narrow_port rows b j laid there)
+
+pub mark_read : (rows : List Row) (b j n : ℕ) (laid : AreLaid rows) (there : IsSome (cells_by rows b)) → n ≡ port_and_mark (get_or (ports_of (cells_by rows b)) j no_port) → n / 256 ≡ (get_or (ports_of (cells_by rows b)) j no_port).mark
+mark_read rows b j n laid there e = let p = get_or (ports_of (cells_by rows b)) j no_port in ap (λ m. m / 256) e ∙ mark_in p.mark p.port (narrow_port rows b j laid there)
+
+-- fewer than 256 ports
+pub low_port : (rows : List Row) (b j : ℕ) (laid : AreLaid rows) (there : IsSome (cells_by rows b)) → j < length (ports_of (cells_by rows b)) → j < 256
 low_port rows b j laid there low = let f = found rows b laid there in let few = f.shaped.few in let l = subst (λ (o : Option HeldCell). j < length (ports_of o)) f.is low in omega (arith, few, l)
+
+pub few_there : (rows : List Row) (b j : ℕ) → AreLaid rows → j < length (ports_of (cells_by rows b)) → j < 256
+few_there rows b j laid low = by (cells_by rows b) refl low
+  where
+    by : (o : Option HeldCell) → cells_by rows b ≡ o → j < length (ports_of o) → j < 256
+    by None e l = absurd (omega (arith, l))
+    by (Some c) e l = low_port rows b j laid (subst (λ (o : Option HeldCell). IsSome o) (sym e) refl) low
+
+-- each port has a number below 256
+pub have_few_ports : (rows : List Row) → AreLaid rows → HaveFewPorts (cells_by rows)
+have_few_ports rows laid b j low = few_there rows b j laid low
 
 -- Changing a row
 
@@ -172,10 +185,10 @@ pub halves_there : (rows : List Row) (b k : ℕ) → AreLaid rows → IsSome (ce
 halves_there rows b k laid there low = let f = found rows b laid there in written_there (halves_in (get_or (items_in rows b) ((14 + k) / 2) blank)) ((14 + k) % 2) (get_or f.cell.numbers k 0) (ap (λ is. half_at is (14 + k)) f.words ∙ small_number_at f.cell f.shaped k low)
 
 -- a cell has the words of its ports
-pub port_words_there : (rows : List Row) (b j w : ℕ) → AreLaid rows → IsSome (cells_by rows b) → j < length (ports_of (cells_by rows b)) → w < 3 → 12 + (j * 3 + w) < length (items_in rows b)
+pub port_words_there : (rows : List Row) (b j w : ℕ) → AreLaid rows → IsSome (cells_by rows b) → j < length (ports_of (cells_by rows b)) → w < 2 → 12 + (j * 2 + w) < length (items_in rows b)
 port_words_there rows b j w laid there low h =
     let f = found rows b laid there in let l : j < length f.cell.ports = subst (λ (o : Option HeldCell). j < length (ports_of o)) f.is low in
-    subst (λ is. 12 + (j * 3 + w) < length is) (sym f.words) (let n = word_count f.cell f.shaped in omega (arith, n, l, h))
+    subst (λ is. 12 + (j * 2 + w) < length is) (sym f.words) (let n = word_count f.cell f.shaped in omega (arith, n, l, h))
 
 -- one word of a cell is written: what the rows stand for then
 pub changes : (rows : List Row) (b k : ℕ) (i : Item) (g : HeldCell → HeldCell) (laid : AreLaid rows) (there : IsSome (cells_by rows b))
@@ -208,15 +221,16 @@ link_changes rows b k x laid there low = changes rows b k (link_to x) (with_link
         numbers = same_count c.numbers c.numbers c.ports c.ports (get_or c.links 7 None) (get_or (set c.links k x) 7 None) refl refl (get_or-set_other c.links k 7 x None (λ (w : 7 ≡ k). absurd (omega (arith, w, low)))) s.numbers;
         small = s.small;
         few = s.few;
+        narrow = s.narrow;
       },
     ))
 
 -- the last link of a membrane
-pub last_link_changes : (rows : List Row) (b : ℕ) (x : Option ℕ) (laid : AreLaid rows) (there : IsSome (cells_by rows b)) → length (numbers_of (cells_by rows b)) ≡ 8 → Changed rows b 17 (link_to x) (with_link 7 x)
-last_link_changes rows b x laid there eight = changes rows b 17 (link_to x) (with_link 7 x) laid there
+pub last_link_changes : (rows : List Row) (b : ℕ) (x : Option ℕ) (laid : AreLaid rows) (there : IsSome (cells_by rows b)) → length (numbers_of (cells_by rows b)) ≡ 8 → Changed rows b 16 (link_to x) (with_link 7 x)
+last_link_changes rows b x laid there eight = changes rows b 16 (link_to x) (with_link 7 x) laid there
     (λ c s e. (let own : length c.numbers ≡ 8 = sym (ap (λ (o : Option HeldCell). length (numbers_of o)) e) ∙ eight in (
       set_last_link_word c s own x,
-      record { links = length-set c.links 7 x ∙ s.links; numbers = inr (own, one_port c s own); small = s.small; few = s.few },
+      record { links = length-set c.links 7 x ∙ s.links; numbers = inr (own, one_port c s own); small = s.small; few = s.few; narrow = s.narrow },
     )))
 
 -- small numbers stay small where one is another
@@ -238,7 +252,7 @@ small_changes rows b k n laid there low fits =
     let h = changes rows b ((14 + k) / 2) i (with_number k n) laid there
     (λ d t e. (
       ap (λ (is : List Item). set (cell_items d) ((14 + k) / 2) (with_half ((14 + k) % 2) n (get_or is ((14 + k) / 2) blank))) (f.words ∙ ap cell_items (same_cell (sym f.is ∙ e))) ∙ set_small_number_at d t k n low,
-      record { links = t.links; numbers = same_count d.numbers (set d.numbers k n) d.ports d.ports (get_or d.links 7 None) (get_or d.links 7 None) (length-set d.numbers k n) refl refl t.numbers; small = small_set d.numbers k n t.small (let m = some_numbers d t in omega (arith, m, low)) (λ _. fits); few = t.few },
+      record { links = t.links; numbers = same_count d.numbers (set d.numbers k n) d.ports d.ports (get_or d.links 7 None) (get_or d.links 7 None) (length-set d.numbers k n) refl refl t.numbers; small = small_set d.numbers k n t.small (let m = some_numbers d t in omega (arith, m, low)) (λ _. fits); few = t.few; narrow = t.narrow },
     )) in
     record { laid = h.laid; cells = h.cells }
 
@@ -247,39 +261,53 @@ pub number_changes : (rows : List Row) (b k n : ℕ) (laid : AreLaid rows) (ther
 number_changes rows b k n laid there high low = changes rows b (7 + k - 1) (number n) (with_number k n) laid there
     (λ c s e. (
       set_first_number_at c s k n high low,
-      record { links = s.links; numbers = same_count c.numbers (set c.numbers k n) c.ports c.ports (get_or c.links 7 None) (get_or c.links 7 None) (length-set c.numbers k n) refl refl s.numbers; small = small_set c.numbers k n s.small (let m = some_numbers c s in omega (arith, m, low)) (λ l. absurd (omega (arith, l, high))); few = s.few },
+      record { links = s.links; numbers = same_count c.numbers (set c.numbers k n) c.ports c.ports (get_or c.links 7 None) (get_or c.links 7 None) (length-set c.numbers k n) refl refl s.numbers; small = small_set c.numbers k n s.small (let m = some_numbers c s in omega (arith, m, low)) (λ l. absurd (omega (arith, l, high))); few = s.few; narrow = s.narrow },
     ))
 
 -- one of the last numbers of a membrane
-pub count_changes : (rows : List Row) (b k n : ℕ) (laid : AreLaid rows) (there : IsSome (cells_by rows b)) → length (numbers_of (cells_by rows b)) ≡ 8 → 6 ≤ k → k < 8 → Changed rows b (15 + k - 6) (number n) (with_number k n)
-count_changes rows b k n laid there eight h low = changes rows b (15 + k - 6) (number n) (with_number k n) laid there
+pub count_changes : (rows : List Row) (b k n : ℕ) (laid : AreLaid rows) (there : IsSome (cells_by rows b)) → length (numbers_of (cells_by rows b)) ≡ 8 → 6 ≤ k → k < 8 → Changed rows b (14 + k - 6) (number n) (with_number k n)
+count_changes rows b k n laid there eight h low = changes rows b (14 + k - 6) (number n) (with_number k n) laid there
     (λ c s e. (
       set_last_number_word c s (sym (ap (λ (o : Option HeldCell). length (numbers_of o)) e) ∙ eight) k n h low,
-      record { links = s.links; numbers = same_count c.numbers (set c.numbers k n) c.ports c.ports (get_or c.links 7 None) (get_or c.links 7 None) (length-set c.numbers k n) refl refl s.numbers; small = small_set c.numbers k n s.small (let e8 = sym (ap (λ (o : Option HeldCell). length (numbers_of o)) e) ∙ eight in omega (arith, e8, low)) (λ l. absurd (omega (arith, l, h))); few = s.few },
+      record { links = s.links; numbers = same_count c.numbers (set c.numbers k n) c.ports c.ports (get_or c.links 7 None) (get_or c.links 7 None) (length-set c.numbers k n) refl refl s.numbers; small = small_set c.numbers k n s.small (let e8 = sym (ap (λ (o : Option HeldCell). length (numbers_of o)) e) ∙ eight in omega (arith, e8, low)) (λ l. absurd (omega (arith, l, h))); few = s.few; narrow = s.narrow },
     ))
 
+-- a cell keeps its shape where a port is another, which leads to a port with a number below 256
+ports_set : (c : HeldCell) → IsShaped c → (j : ℕ) (p : HeldPort) → p.port < 256 → IsShaped (record c { ports = set c.ports j p })
+ports_set c s j p small = record {
+  links = s.links;
+  numbers = same_count c.numbers c.numbers c.ports (set c.ports j p) (get_or c.links 7 None) (get_or c.links 7 None) refl (length-set c.ports j p) refl s.numbers;
+  small = s.small;
+  few = subst (λ n. n < 256) (sym (length-set c.ports j p)) s.few;
+  narrow = narrow_set c.ports j p s.narrow small;
+}
+
 -- where a port leads
-pub to_changes : (rows : List Row) (b j : ℕ) (x : Option ℕ) (laid : AreLaid rows) (there : IsSome (cells_by rows b)) → j < length (ports_of (cells_by rows b)) → Changed rows b (12 + (j * 3 + 0)) (link_to x) (with_to j x)
-to_changes rows b j x laid there low = changes rows b (12 + (j * 3 + 0)) (link_to x) (with_to j x) laid there
+pub to_changes : (rows : List Row) (b j : ℕ) (x : Option ℕ) (laid : AreLaid rows) (there : IsSome (cells_by rows b)) → j < length (ports_of (cells_by rows b)) → Changed rows b (12 + (j * 2 + 0)) (link_to x) (with_to j x)
+to_changes rows b j x laid there low = changes rows b (12 + (j * 2 + 0)) (link_to x) (with_to j x) laid there
     (λ c s e. (
-      set_ports_at c s (j * 3 + 0) (link_to x) ∙ ap (λ is. link_items (take 7 c.links) ++ (first_items (take 6 c.numbers) ++ is)) (set_to_at c.ports j x (end_of c) (subst (λ (o : Option HeldCell). j < length (ports_of o)) e low)),
-      record { links = s.links; numbers = same_count c.numbers c.numbers c.ports (set c.ports j _) (get_or c.links 7 None) (get_or c.links 7 None) refl (length-set c.ports j _) refl s.numbers; small = s.small; few = subst (λ n. n < 2 ^ 16) (sym (length-set c.ports j _)) s.few },
+      set_ports_at c s (j * 2 + 0) (link_to x) ∙ ap (λ is. link_items (take 7 c.links) ++ (first_items (take 6 c.numbers) ++ is)) (set_to_at c.ports j x (end_of c) (subst (λ (o : Option HeldCell). j < length (ports_of o)) e low)),
+      ports_set c s j (record (get_or c.ports j no_port) { to = x }) (s.narrow j),
     ))
 
 -- the number of the port there
-pub port_changes : (rows : List Row) (b j n : ℕ) (laid : AreLaid rows) (there : IsSome (cells_by rows b)) → j < length (ports_of (cells_by rows b)) → Changed rows b (12 + (j * 3 + 1)) (number n) (with_port j n)
-port_changes rows b j n laid there low = changes rows b (12 + (j * 3 + 1)) (number n) (with_port j n) laid there
+pub port_changes : (rows : List Row) (b j n : ℕ) (laid : AreLaid rows) (there : IsSome (cells_by rows b)) → j < length (ports_of (cells_by rows b)) → n < 256
+    → Changed rows b (12 + (j * 2 + 1)) (number ((get_or (ports_of (cells_by rows b)) j no_port).mark * 256 + n)) (with_port j n)
+port_changes rows b j n laid there low small = changes rows b (12 + (j * 2 + 1)) (number ((get_or (ports_of (cells_by rows b)) j no_port).mark * 256 + n)) (with_port j n) laid there
     (λ c s e. (
-      set_ports_at c s (j * 3 + 1) (number n) ∙ ap (λ is. link_items (take 7 c.links) ++ (first_items (take 6 c.numbers) ++ is)) (set_port_at c.ports j n (end_of c) (subst (λ (o : Option HeldCell). j < length (ports_of o)) e low)),
-      record { links = s.links; numbers = same_count c.numbers c.numbers c.ports (set c.ports j _) (get_or c.links 7 None) (get_or c.links 7 None) refl (length-set c.ports j _) refl s.numbers; small = s.small; few = subst (λ m. m < 2 ^ 16) (sym (length-set c.ports j _)) s.few },
+      ap (λ (o : Option HeldCell). set (cell_items c) (12 + (j * 2 + 1)) (number ((get_or (ports_of o) j no_port).mark * 256 + n))) e ∙ set_ports_at c s (j * 2 + 1) (number ((get_or c.ports j no_port).mark * 256 + n))
+          ∙ ap (λ is. link_items (take 7 c.links) ++ (first_items (take 6 c.numbers) ++ is)) (set_port_at c.ports j n (end_of c) (subst (λ (o : Option HeldCell). j < length (ports_of o)) e low)),
+      ports_set c s j (record (get_or c.ports j no_port) { port = n }) small,
     ))
 
 -- the mark of a port
-pub mark_changes : (rows : List Row) (b j n : ℕ) (laid : AreLaid rows) (there : IsSome (cells_by rows b)) → j < length (ports_of (cells_by rows b)) → Changed rows b (12 + (j * 3 + 2)) (number n) (with_mark j n)
-mark_changes rows b j n laid there low = changes rows b (12 + (j * 3 + 2)) (number n) (with_mark j n) laid there
+pub mark_changes : (rows : List Row) (b j n : ℕ) (laid : AreLaid rows) (there : IsSome (cells_by rows b)) → j < length (ports_of (cells_by rows b))
+    → Changed rows b (12 + (j * 2 + 1)) (number (n * 256 + (get_or (ports_of (cells_by rows b)) j no_port).port)) (with_mark j n)
+mark_changes rows b j n laid there low = changes rows b (12 + (j * 2 + 1)) (number (n * 256 + (get_or (ports_of (cells_by rows b)) j no_port).port)) (with_mark j n) laid there
     (λ c s e. (
-      set_ports_at c s (j * 3 + 2) (number n) ∙ ap (λ is. link_items (take 7 c.links) ++ (first_items (take 6 c.numbers) ++ is)) (set_mark_at c.ports j n (end_of c) (subst (λ (o : Option HeldCell). j < length (ports_of o)) e low)),
-      record { links = s.links; numbers = same_count c.numbers c.numbers c.ports (set c.ports j _) (get_or c.links 7 None) (get_or c.links 7 None) refl (length-set c.ports j _) refl s.numbers; small = s.small; few = subst (λ m. m < 2 ^ 16) (sym (length-set c.ports j _)) s.few },
+      ap (λ (o : Option HeldCell). set (cell_items c) (12 + (j * 2 + 1)) (number (n * 256 + (get_or (ports_of o) j no_port).port))) e ∙ set_ports_at c s (j * 2 + 1) (number (n * 256 + (get_or c.ports j no_port).port))
+          ∙ ap (λ is. link_items (take 7 c.links) ++ (first_items (take 6 c.numbers) ++ is)) (set_mark_at c.ports j n (end_of c) (subst (λ (o : Option HeldCell). j < length (ports_of o)) e low)),
+      ports_set c s j (record (get_or c.ports j no_port) { mark = n }) (s.narrow j),
     ))
 
 -- what holds after a word was written, as the row's call says it

@@ -1,7 +1,7 @@
 -- The words of a cell, read and written.
 use Rattle.std.proofs.Common.{◌≡◌, ℕ, zero, suc, ◌+◌, ◌-◌, ◌*◌, ◌/◌, ◌%◌, ◌<◌, ◌≤◌, Bool, true, false, List, [], ◌∷◌, ◌++◌, length, take, drop, get_or, set, Option, Some, None, if◌then◌else◌, refl, sym, subst, ap, ◌∙◌, inl, inr, arith, get_or-set_same, get_or-set_other, length-take}
 use Rattle.lmn_web_cells.specs.Rows.{Item, blank, number, halves, halves_in, with_half, half_at, with_half_at, place_of, place_ptr}
-use Rattle.lmn_web_cells.specs.Cells.{HeldPort, HeldCell, link_to, link_items, number_items, first_items, port_items, end_items, cell_items, led_to, first_links, first_numbers, numbers_by, ports_by, is_number, is_membrane, last_numbers, last_link, cell_by, IsShaped, no_port}
+use Rattle.lmn_web_cells.specs.Cells.{HeldPort, HeldCell, link_to, link_items, number_items, first_items, port_and_mark, port_items, end_items, cell_items, led_to, first_links, first_numbers, numbers_by, ports_by, is_number, is_membrane, last_numbers, last_link, cell_by, IsShaped, no_port}
 use Rattle.std.proofs.Math.Seq.{take-set-lt}
 use Rattle.std.proofs.lemmas.List.{nil_from_length, get_or-drop, take-append-drop, length-drop, take-set-le, drop-set-lt, drop-set-add, get_or-take}
 use Rattle.lmn_base.proofs.Numbers.{no_more}
@@ -77,12 +77,12 @@ past_numbers ns k rest l = let h = six_of ns l in
     subst (λ (ms : List ℕ). get_or (first_items (take 6 ms) ++ rest) (5 + k) blank ≡ get_or rest k blank) (sym h.are)
     (ap (λ m. get_or (halves h.a h.b ∷ number h.c ∷ number h.d ∷ number h.e ∷ number h.f ∷ rest) m blank) (five_more k))
 
-three_more : (k : ℕ) → 3 + k ≡ suc (suc (suc k))
-three_more k = omega arith
+two_more : (k : ℕ) → 2 + k ≡ suc (suc k)
+two_more k = omega arith
 
-past_port : (ps : List HeldPort) (k : ℕ) (rest : List Item) → length ps ≡ 1 → get_or (port_items ps ++ rest) (3 + k) blank ≡ get_or rest k blank
+past_port : (ps : List HeldPort) (k : ℕ) (rest : List Item) → length ps ≡ 1 → get_or (port_items ps ++ rest) (2 + k) blank ≡ get_or rest k blank
 past_port [] k rest e = absurd (omega (arith, e))
-past_port (p ∷ []) k rest e = ap (λ m. get_or (port_items (p ∷ []) ++ rest) m blank) (three_more k)
+past_port (p ∷ []) k rest e = ap (λ m. get_or (port_items (p ∷ []) ++ rest) m blank) (two_more k)
 past_port (p ∷ q ∷ ps) k rest e = absurd (omega (arith, e))
 
 last_number_at : (ns : List ℕ) (k : ℕ) (rest : List Item) → k < length ns → get_or (number_items ns ++ rest) k blank ≡ number (get_or ns k 0)
@@ -120,9 +120,9 @@ set_past_numbers ns k i rest l = let h = six_of ns l in
     subst (λ (ms : List ℕ). set (first_items (take 6 ms) ++ rest) (5 + k) i ≡ first_items (take 6 ms) ++ set rest k i) (sym h.are)
     (ap (λ m. set (halves h.a h.b ∷ number h.c ∷ number h.d ∷ number h.e ∷ number h.f ∷ rest) m i) (five_more k))
 
-set_past_port : (ps : List HeldPort) (k : ℕ) (i : Item) (rest : List Item) → length ps ≡ 1 → set (port_items ps ++ rest) (3 + k) i ≡ port_items ps ++ set rest k i
+set_past_port : (ps : List HeldPort) (k : ℕ) (i : Item) (rest : List Item) → length ps ≡ 1 → set (port_items ps ++ rest) (2 + k) i ≡ port_items ps ++ set rest k i
 set_past_port [] k i rest e = absurd (omega (arith, e))
-set_past_port (p ∷ []) k i rest e = ap (λ m. set (port_items (p ∷ []) ++ rest) m i) (three_more k)
+set_past_port (p ∷ []) k i rest e = ap (λ m. set (port_items (p ∷ []) ++ rest) m i) (two_more k)
 set_past_port (p ∷ q ∷ ps) k i rest e = absurd (omega (arith, e))
 
 set_last_number_at : (ns : List ℕ) (k n : ℕ) (rest : List Item) → k < length ns → set (number_items ns ++ rest) k (number n) ≡ number_items (set ns k n) ++ rest
@@ -177,18 +177,24 @@ numbers_gone ns k rest l = let h = six_of ns l in
     subst (λ (ms : List ℕ). drop (5 + k) (first_items (take 6 ms) ++ rest) ≡ drop k rest) (sym h.are)
     (ap (λ m. drop m (halves h.a h.b ∷ number h.c ∷ number h.d ∷ number h.e ∷ number h.f ∷ rest)) (five_more k))
 
-port_gone : (ps : List HeldPort) (rest : List Item) → length ps ≡ 1 → drop 3 (port_items ps ++ rest) ≡ rest
+port_gone : (ps : List HeldPort) (rest : List Item) → length ps ≡ 1 → drop 2 (port_items ps ++ rest) ≡ rest
 port_gone [] rest e = absurd (omega (arith, e))
 port_gone (p ∷ []) rest e = refl
 port_gone (p ∷ q ∷ ps) rest e = absurd (omega (arith, e))
 
+-- the port and the mark in one number
+pub port_in : (mark port : ℕ) → port < 256 → (mark * 256 + port) % 256 ≡ port
+port_in mark port low = omega (arith, low)
+
+pub mark_in : (mark port : ℕ) → port < 256 → (mark * 256 + port) / 256 ≡ mark
+mark_in mark port low = omega (arith, low)
+
 -- what stands behind the ports is none
-ports_back : (ps : List HeldPort) (x : Option ℕ) (ns : List ℕ) → ports_by (port_items ps ++ end_items x ns) ≡ ps
-ports_back [] x [] = refl
-ports_back [] x (n ∷ []) = refl
-ports_back [] x (n ∷ m ∷ []) = refl
-ports_back [] x (n ∷ m ∷ k ∷ ns) = refl
-ports_back (p ∷ ps) x ns = λ j. record { to = link_back p.to j; port = p.port; mark = p.mark } ∷ ports_back ps x ns j
+ports_back : (ps : List HeldPort) (x : Option ℕ) (ns : List ℕ) → ((j : ℕ) → (get_or ps j no_port).port < 256) → ports_by (port_items ps ++ end_items x ns) ≡ ps
+ports_back [] x [] low = refl
+ports_back [] x (n ∷ []) low = refl
+ports_back [] x (n ∷ m ∷ ns) low = refl
+ports_back (p ∷ ps) x ns low = λ j. record { to = link_back p.to j; port = port_in p.mark p.port (low 0) j; mark = mark_in p.mark p.port (low 0) j } ∷ ports_back ps x ns (λ k. low (suc k)) j
 
 whole : (is : List Item) → 0 < length is → cell_by is ≡ Some record { links = first_links 7 is ++ last_link is ∷ []; numbers = numbers_by (drop 7 is) ++ last_numbers is; ports = ports_by (drop 12 is) }
 whole [] l = absurd (omega (arith, l))
@@ -203,7 +209,7 @@ count_links (x ∷ ls) rest = let r = count_links ls rest in omega (arith, r)
 count_numbers : (ns : List ℕ) (rest : List Item) → 6 ≤ length ns → length (first_items (take 6 ns) ++ rest) ≡ 5 + length rest
 count_numbers ns rest l = let h = six_of ns l in subst (λ (ms : List ℕ). length (first_items (take 6 ms) ++ rest) ≡ 5 + length rest) (sym h.are) (omega arith)
 
-count_ports : (ps : List HeldPort) (rest : List Item) → length (port_items ps ++ rest) ≡ length ps * 3 + length rest
+count_ports : (ps : List HeldPort) (rest : List Item) → length (port_items ps ++ rest) ≡ length ps * 2 + length rest
 count_ports [] rest = omega arith
 count_ports (p ∷ ps) rest = let r = count_ports ps rest in omega (arith, r)
 
@@ -225,7 +231,7 @@ none_behind : (c : HeldCell) → length c.numbers ≡ 6 → end_of c ≡ []
 none_behind c e = let m = length-drop 6 c.numbers in no_end (get_or c.links 7 None) (drop 6 c.numbers) (omega (arith, m, e))
 
 -- how many words a cell has
-pub word_count : (c : HeldCell) → IsShaped c → length (cell_items c) ≡ 12 + length c.ports * 3 + length (end_of c)
+pub word_count : (c : HeldCell) → IsShaped c → length (cell_items c) ≡ 12 + length c.ports * 2 + length (end_of c)
 word_count c s =
     let a = count_links (take 7 c.links) (behind_links c) in let b = count_numbers c.numbers (behind_numbers c) (some_numbers c s) in let d = count_ports c.ports (end_of c) in
     let e = seven c s in omega (arith, a, b, d, e)
@@ -238,46 +244,46 @@ membrane_count c e = three_words (get_or c.links 7 None) (drop 6 c.numbers) (two
 
 -- whether it is a membrane's
 
-no_membrane : (ps : List HeldPort) → is_number (get_or (port_items ps ++ []) 3 blank) ≡ false
+no_membrane : (ps : List HeldPort) → is_number (get_or (port_items ps ++ []) 2 blank) ≡ false
 no_membrane [] = refl
 no_membrane (p ∷ []) = refl
 no_membrane (p ∷ q ∷ ps) = refl
 
-a_membrane : (ps : List HeldPort) (x : Option ℕ) (ns : List ℕ) → length ps ≡ 1 → length ns ≡ 2 → is_number (get_or (port_items ps ++ end_items x ns) 3 blank) ≡ true
+a_membrane : (ps : List HeldPort) (x : Option ℕ) (ns : List ℕ) → length ps ≡ 1 → length ns ≡ 2 → is_number (get_or (port_items ps ++ end_items x ns) 2 blank) ≡ true
 a_membrane ps x [] one two = absurd (omega (arith, two))
 a_membrane [] x (n ∷ ns) one two = absurd (omega (arith, one))
 a_membrane (p ∷ []) x (n ∷ ns) one two = refl
 a_membrane (p ∷ q ∷ ps) x (n ∷ ns) one two = absurd (omega (arith, one))
 
-word_behind_port : (c : HeldCell) → IsShaped c → get_or (cell_items c) 15 blank ≡ get_or (behind_numbers c) 3 blank
-word_behind_port c s = past_links (take 7 c.links) 7 8 (behind_links c) (seven c s) ∙ past_numbers c.numbers 3 (behind_numbers c) (some_numbers c s)
+word_behind_port : (c : HeldCell) → IsShaped c → get_or (cell_items c) 14 blank ≡ get_or (behind_numbers c) 2 blank
+word_behind_port c s = past_links (take 7 c.links) 7 7 (behind_links c) (seven c s) ∙ past_numbers c.numbers 2 (behind_numbers c) (some_numbers c s)
 
 tells_atom : (c : HeldCell) → IsShaped c → length c.numbers ≡ 6 → is_membrane (cell_items c) ≡ false
-tells_atom c s six = ap is_number (word_behind_port c s ∙ ap (λ (is : List Item). get_or (port_items c.ports ++ is) 3 blank) (none_behind c six)) ∙ no_membrane c.ports
+tells_atom c s six = ap is_number (word_behind_port c s ∙ ap (λ (is : List Item). get_or (port_items c.ports ++ is) 2 blank) (none_behind c six)) ∙ no_membrane c.ports
 
 tells_membrane : (c : HeldCell) → IsShaped c → length c.numbers ≡ 8 → is_membrane (cell_items c) ≡ true
 tells_membrane c s eight = ap is_number (word_behind_port c s) ∙ a_membrane c.ports (get_or c.links 7 None) (drop 6 c.numbers) (one_port c s eight) (two_behind c eight)
 
 -- the last link of a membrane
-pub last_link_word : (c : HeldCell) → IsShaped c → length c.numbers ≡ 8 → get_or (cell_items c) 17 blank ≡ link_to (get_or c.links 7 None)
-last_link_word c s eight = past_links (take 7 c.links) 7 10 (behind_links c) (seven c s) ∙ past_numbers c.numbers 5 (behind_numbers c) (some_numbers c s)
+pub last_link_word : (c : HeldCell) → IsShaped c → length c.numbers ≡ 8 → get_or (cell_items c) 16 blank ≡ link_to (get_or c.links 7 None)
+last_link_word c s eight = past_links (take 7 c.links) 7 9 (behind_links c) (seven c s) ∙ past_numbers c.numbers 4 (behind_numbers c) (some_numbers c s)
     ∙ past_port c.ports 2 (end_of c) (one_port c s eight) ∙ end_link_at (get_or c.links 7 None) (drop 6 c.numbers) (two_behind c eight)
 
 -- the last numbers of a membrane are read where its row has their words
 last_back : (c : HeldCell) → IsShaped c → last_numbers (cell_items c) ≡ drop 6 c.numbers
 last_back c s = elim s.numbers [
   | inl six ↦ (let e = six.0 in let m = length-drop 6 c.numbers in
-      ap (λ (t : Bool). if t then first_numbers 2 (drop 15 (cell_items c)) else []) (tells_atom c s six.0) ∙ sym (nil_from_length (drop 6 c.numbers) (omega (arith, m, e))))
-  | inr eight ↦ ap (λ (t : Bool). if t then first_numbers 2 (drop 15 (cell_items c)) else []) (tells_membrane c s eight.0)
-      ∙ ap (first_numbers 2) (links_gone (take 7 c.links) 7 8 (behind_links c) (seven c s) ∙ numbers_gone c.numbers 3 (behind_numbers c) (some_numbers c s) ∙ port_gone c.ports (end_of c) eight.1)
+      ap (λ (t : Bool). if t then first_numbers 2 (drop 14 (cell_items c)) else []) (tells_atom c s six.0) ∙ sym (nil_from_length (drop 6 c.numbers) (omega (arith, m, e))))
+  | inr eight ↦ ap (λ (t : Bool). if t then first_numbers 2 (drop 14 (cell_items c)) else []) (tells_membrane c s eight.0)
+      ∙ ap (first_numbers 2) (links_gone (take 7 c.links) 7 7 (behind_links c) (seven c s) ∙ numbers_gone c.numbers 2 (behind_numbers c) (some_numbers c s) ∙ port_gone c.ports (end_of c) eight.1)
       ∙ end_numbers_back (get_or c.links 7 None) (drop 6 c.numbers) (two_behind c eight.0)
 ]
 
 -- and so is its last link
 last_link_back : (c : HeldCell) → IsShaped c → last_link (cell_items c) ≡ get_or c.links 7 None
 last_link_back c s = elim s.numbers [
-  | inl six ↦ ap (λ (t : Bool). if t then led_to (get_or (cell_items c) 17 blank) else None) (tells_atom c s six.0) ∙ sym six.1
-  | inr eight ↦ ap (λ (t : Bool). if t then led_to (get_or (cell_items c) 17 blank) else None) (tells_membrane c s eight.0) ∙ ap led_to (last_link_word c s eight.0) ∙ link_back (get_or c.links 7 None)
+  | inl six ↦ ap (λ (t : Bool). if t then led_to (get_or (cell_items c) 16 blank) else None) (tells_atom c s six.0) ∙ sym six.1
+  | inr eight ↦ ap (λ (t : Bool). if t then led_to (get_or (cell_items c) 16 blank) else None) (tells_membrane c s eight.0) ∙ ap led_to (last_link_word c s eight.0) ∙ link_back (get_or c.links 7 None)
 ]
 
 all_but_one : (n : ℕ) (ls : List (Option ℕ)) → length ls ≡ suc n → take n ls ++ get_or ls n None ∷ [] ≡ ls
@@ -298,49 +304,54 @@ cell_back c s =
     ∙ (λ j. Some record {
       links = ((λ t. links_back (take 7 c.links) 7 (behind_links c) (seven c s) t ++ last_link_back c s t ∷ []) ∙ all_but_one 7 c.links s.links) j;
       numbers = ((λ t. first t ++ last_back c s t) ∙ take-append-drop 6 c.numbers) j;
-      ports = (ap ports_by (links_gone (take 7 c.links) 7 5 (behind_links c) (seven c s) ∙ numbers_gone c.numbers 0 (behind_numbers c) (some_numbers c s)) ∙ ports_back c.ports (get_or c.links 7 None) (drop 6 c.numbers)) j;
+      ports = (ap ports_by (links_gone (take 7 c.links) 7 5 (behind_links c) (seven c s) ∙ numbers_gone c.numbers 0 (behind_numbers c) (some_numbers c s)) ∙ ports_back c.ports (get_or c.links 7 None) (drop 6 c.numbers) s.narrow) j;
     })
 
 -- Ports
 
-three : (j w : ℕ) → suc (suc (suc (j * 3 + w))) ≡ suc j * 3 + w
-three j w = omega arith
+two : (j w : ℕ) → suc (suc (j * 2 + w)) ≡ suc j * 2 + w
+two j w = omega arith
 
 -- the word w of a port
 abbrev port_word : HeldPort → ℕ → Item
 port_word p zero = link_to p.to
-port_word p (suc zero) = number p.port
-port_word p (suc (suc w)) = number p.mark
+port_word p (suc w) = number (port_and_mark p)
 
 -- a word of a port
-pub port_word_at : (ps : List HeldPort) (j w : ℕ) (rest : List Item) → w < 3 → j < length ps → get_or (port_items ps ++ rest) (j * 3 + w) blank ≡ port_word (get_or ps j no_port) w
+pub port_word_at : (ps : List HeldPort) (j w : ℕ) (rest : List Item) → w < 2 → j < length ps → get_or (port_items ps ++ rest) (j * 2 + w) blank ≡ port_word (get_or ps j no_port) w
 port_word_at [] j w rest h l = absurd (omega (arith, l))
 port_word_at (p ∷ ps) zero zero rest h l = refl
 port_word_at (p ∷ ps) zero (suc zero) rest h l = refl
-port_word_at (p ∷ ps) zero (suc (suc zero)) rest h l = refl
-port_word_at (p ∷ ps) zero (suc (suc (suc w))) rest h l = absurd (omega (arith, h))
-port_word_at (p ∷ ps) (suc j) w rest h l = subst (λ n. get_or (port_items (p ∷ ps) ++ rest) n blank ≡ port_word (get_or ps j no_port) w) (three j w) (port_word_at ps j w rest h (omega (arith, l)))
+port_word_at (p ∷ ps) zero (suc (suc w)) rest h l = absurd (omega (arith, h))
+port_word_at (p ∷ ps) (suc j) w rest h l = subst (λ n. get_or (port_items (p ∷ ps) ++ rest) n blank ≡ port_word (get_or ps j no_port) w) (two j w) (port_word_at ps j w rest h (omega (arith, l)))
 
 -- where a port leads is written
-pub set_to_at : (ps : List HeldPort) (j : ℕ) (x : Option ℕ) (rest : List Item) → j < length ps → set (port_items ps ++ rest) (j * 3 + 0) (link_to x) ≡ port_items (set ps j (record (get_or ps j no_port) { to = x })) ++ rest
+pub set_to_at : (ps : List HeldPort) (j : ℕ) (x : Option ℕ) (rest : List Item) → j < length ps → set (port_items ps ++ rest) (j * 2 + 0) (link_to x) ≡ port_items (set ps j (record (get_or ps j no_port) { to = x })) ++ rest
 set_to_at [] j x rest l = absurd (omega (arith, l))
 set_to_at (p ∷ ps) zero x rest l = refl
-set_to_at (p ∷ ps) (suc j) x rest l = subst (λ n. set (port_items (p ∷ ps) ++ rest) n (link_to x) ≡ port_items (p ∷ set ps j (record (get_or ps j no_port) { to = x })) ++ rest) (three j 0)
-    (ap (λ is. link_to p.to ∷ number p.port ∷ number p.mark ∷ is) (set_to_at ps j x rest (omega (arith, l))))
+set_to_at (p ∷ ps) (suc j) x rest l = subst (λ n. set (port_items (p ∷ ps) ++ rest) n (link_to x) ≡ port_items (p ∷ set ps j (record (get_or ps j no_port) { to = x })) ++ rest) (two j 0)
+    (ap (λ is. link_to p.to ∷ number (port_and_mark p) ∷ is) (set_to_at ps j x rest (omega (arith, l))))
 
--- the port there is written
-pub set_port_at : (ps : List HeldPort) (j n : ℕ) (rest : List Item) → j < length ps → set (port_items ps ++ rest) (j * 3 + 1) (number n) ≡ port_items (set ps j (record (get_or ps j no_port) { port = n })) ++ rest
+-- the port there is written, or the mark
+pub set_port_at : (ps : List HeldPort) (j n : ℕ) (rest : List Item) → j < length ps → set (port_items ps ++ rest) (j * 2 + 1) (number ((get_or ps j no_port).mark * 256 + n)) ≡ port_items (set ps j (record (get_or ps j no_port) { port = n })) ++ rest
 set_port_at [] j n rest l = absurd (omega (arith, l))
 set_port_at (p ∷ ps) zero n rest l = refl
-set_port_at (p ∷ ps) (suc j) n rest l = subst (λ m. set (port_items (p ∷ ps) ++ rest) m (number n) ≡ port_items (p ∷ set ps j (record (get_or ps j no_port) { port = n })) ++ rest) (three j 1)
-    (ap (λ is. link_to p.to ∷ number p.port ∷ number p.mark ∷ is) (set_port_at ps j n rest (omega (arith, l))))
+set_port_at (p ∷ ps) (suc j) n rest l = subst (λ m. set (port_items (p ∷ ps) ++ rest) m (number ((get_or ps j no_port).mark * 256 + n)) ≡ port_items (p ∷ set ps j (record (get_or ps j no_port) { port = n })) ++ rest) (two j 1)
+    (ap (λ is. link_to p.to ∷ number (port_and_mark p) ∷ is) (set_port_at ps j n rest (omega (arith, l))))
 
--- a mark is written
-pub set_mark_at : (ps : List HeldPort) (j n : ℕ) (rest : List Item) → j < length ps → set (port_items ps ++ rest) (j * 3 + 2) (number n) ≡ port_items (set ps j (record (get_or ps j no_port) { mark = n })) ++ rest
+pub set_mark_at : (ps : List HeldPort) (j n : ℕ) (rest : List Item) → j < length ps → set (port_items ps ++ rest) (j * 2 + 1) (number (n * 256 + (get_or ps j no_port).port)) ≡ port_items (set ps j (record (get_or ps j no_port) { mark = n })) ++ rest
 set_mark_at [] j n rest l = absurd (omega (arith, l))
 set_mark_at (p ∷ ps) zero n rest l = refl
-set_mark_at (p ∷ ps) (suc j) n rest l = subst (λ m. set (port_items (p ∷ ps) ++ rest) m (number n) ≡ port_items (p ∷ set ps j (record (get_or ps j no_port) { mark = n })) ++ rest) (three j 2)
-    (ap (λ is. link_to p.to ∷ number p.port ∷ number p.mark ∷ is) (set_mark_at ps j n rest (omega (arith, l))))
+set_mark_at (p ∷ ps) (suc j) n rest l = subst (λ m. set (port_items (p ∷ ps) ++ rest) m (number (n * 256 + (get_or ps j no_port).port)) ≡ port_items (p ∷ set ps j (record (get_or ps j no_port) { mark = n })) ++ rest) (two j 1)
+    (ap (λ is. link_to p.to ∷ number (port_and_mark p) ∷ is) (set_mark_at ps j n rest (omega (arith, l))))
+
+-- ports stay below 256 where one of them leads to one
+pub narrow_set : (ps : List HeldPort) (j : ℕ) (p : HeldPort) → ((k : ℕ) → (get_or ps k no_port).port < 256) → p.port < 256 → (k : ℕ) → (get_or (set ps j p) k no_port).port < 256
+narrow_set [] j p low l k = low k
+narrow_set (q ∷ ps) zero p low l zero = l
+narrow_set (q ∷ ps) zero p low l (suc k) = low (suc k)
+narrow_set (q ∷ ps) (suc j) p low l zero = low 0
+narrow_set (q ∷ ps) (suc j) p low l (suc k) = narrow_set ps j p (λ m. low (suc m)) l k
 
 -- behind the links and the first numbers
 ten : (m : ℕ) → 12 + m ≡ 7 + (5 + m)
@@ -438,7 +449,7 @@ set_first_number_at c s k n high low = let h = six_of c.numbers (some_numbers c 
     ∙ ap (λ is. first_items (take 6 (set c.numbers k n)) ++ (port_items c.ports ++ is)) (sym (same_behind c k n low)))
 
 -- behind the port of a membrane
-behind_port : (k : ℕ) → 6 ≤ k → 15 + k - 6 ≡ 7 + (5 + (3 + (k - 6)))
+behind_port : (k : ℕ) → 6 ≤ k → 14 + k - 6 ≡ 7 + (5 + (2 + (k - 6)))
 behind_port k h = omega (arith, h)
 
 from_six : (k : ℕ) → 6 ≤ k → 6 + (k - 6) ≡ k
@@ -448,15 +459,15 @@ few_behind : (c : HeldCell) (k : ℕ) → length c.numbers ≡ 8 → 6 ≤ k →
 few_behind c k e h low = let m = length-drop 6 c.numbers in omega (arith, m, e, h, low)
 
 -- the word of one of the numbers behind it
-pub last_number_word : (c : HeldCell) → IsShaped c → length c.numbers ≡ 8 → (k : ℕ) → 6 ≤ k → k < 8 → get_or (cell_items c) (15 + k - 6) blank ≡ number (get_or c.numbers k 0)
-last_number_word c s e k h low = ap (λ n. get_or (cell_items c) n blank) (behind_port k h) ∙ past_links (take 7 c.links) 7 (5 + (3 + (k - 6))) (behind_links c) (seven c s)
-    ∙ past_numbers c.numbers (3 + (k - 6)) (behind_numbers c) (some_numbers c s) ∙ past_port c.ports (k - 6) (end_of c) (one_port c s e)
+pub last_number_word : (c : HeldCell) → IsShaped c → length c.numbers ≡ 8 → (k : ℕ) → 6 ≤ k → k < 8 → get_or (cell_items c) (14 + k - 6) blank ≡ number (get_or c.numbers k 0)
+last_number_word c s e k h low = ap (λ n. get_or (cell_items c) n blank) (behind_port k h) ∙ past_links (take 7 c.links) 7 (5 + (2 + (k - 6))) (behind_links c) (seven c s)
+    ∙ past_numbers c.numbers (2 + (k - 6)) (behind_numbers c) (some_numbers c s) ∙ past_port c.ports (k - 6) (end_of c) (one_port c s e)
     ∙ end_number_at (get_or c.links 7 None) (drop 6 c.numbers) (k - 6) (few_behind c k e h low) ∙ ap number (get_or-drop 6 c.numbers (k - 6) 0 ∙ ap (λ n. get_or c.numbers n 0) (from_six k h))
 
 -- one of them is written
-pub set_last_number_word : (c : HeldCell) → IsShaped c → length c.numbers ≡ 8 → (k n : ℕ) → 6 ≤ k → k < 8 → set (cell_items c) (15 + k - 6) (number n) ≡ cell_items (record c { numbers = set c.numbers k n })
-set_last_number_word c s e k n h low = ap (λ m. set (cell_items c) m (number n)) (behind_port k h) ∙ set_past_links (take 7 c.links) 7 (5 + (3 + (k - 6))) (number n) (behind_links c) (seven c s)
-    ∙ ap (λ is. link_items (take 7 c.links) ++ is) (set_past_numbers c.numbers (3 + (k - 6)) (number n) (behind_numbers c) (some_numbers c s)
+pub set_last_number_word : (c : HeldCell) → IsShaped c → length c.numbers ≡ 8 → (k n : ℕ) → 6 ≤ k → k < 8 → set (cell_items c) (14 + k - 6) (number n) ≡ cell_items (record c { numbers = set c.numbers k n })
+set_last_number_word c s e k n h low = ap (λ m. set (cell_items c) m (number n)) (behind_port k h) ∙ set_past_links (take 7 c.links) 7 (5 + (2 + (k - 6))) (number n) (behind_links c) (seven c s)
+    ∙ ap (λ is. link_items (take 7 c.links) ++ is) (set_past_numbers c.numbers (2 + (k - 6)) (number n) (behind_numbers c) (some_numbers c s)
     ∙ ap (λ is. first_items (take 6 c.numbers) ++ is) (set_past_port c.ports (k - 6) (number n) (end_of c) (one_port c s e)
     ∙ ap (λ is. port_items c.ports ++ is) (set_end_number_at (get_or c.links 7 None) (drop 6 c.numbers) (k - 6) n (few_behind c k e h low)))
     ∙ (λ t. first_items (sym (take-set-le 6 c.numbers k n h) t) ++ (port_items c.ports ++ end_items (get_or c.links 7 None) (sym (ap (λ m. drop 6 (set c.numbers m n)) (sym (from_six k h)) ∙ drop-set-add 6 c.numbers (k - 6) n) t))))
@@ -474,10 +485,10 @@ set_first_link_at c s k x low = let e = seven c s in
     ∙ (λ t. link_items (sym (take-set-lt 7 c.links k x low) t) ++ (first_items (take 6 c.numbers) ++ (port_items c.ports ++ end_items (sym (get_or-set_other c.links k 7 x None (λ (w : 7 ≡ k). absurd (omega (arith, w, low)))) t) (drop 6 c.numbers))))
 
 -- and so is the last one
-pub set_last_link_word : (c : HeldCell) → IsShaped c → length c.numbers ≡ 8 → (x : Option ℕ) → set (cell_items c) 17 (link_to x) ≡ cell_items (record c { links = set c.links 7 x })
+pub set_last_link_word : (c : HeldCell) → IsShaped c → length c.numbers ≡ 8 → (x : Option ℕ) → set (cell_items c) 16 (link_to x) ≡ cell_items (record c { links = set c.links 7 x })
 set_last_link_word c s eight x = let e = s.links in
-    set_past_links (take 7 c.links) 7 10 (link_to x) (behind_links c) (seven c s)
-    ∙ ap (λ is. link_items (take 7 c.links) ++ is) (set_past_numbers c.numbers 5 (link_to x) (behind_numbers c) (some_numbers c s)
+    set_past_links (take 7 c.links) 7 9 (link_to x) (behind_links c) (seven c s)
+    ∙ ap (λ is. link_items (take 7 c.links) ++ is) (set_past_numbers c.numbers 4 (link_to x) (behind_numbers c) (some_numbers c s)
     ∙ ap (λ is. first_items (take 6 c.numbers) ++ is) (set_past_port c.ports 2 (link_to x) (end_of c) (one_port c s eight)
     ∙ ap (λ is. port_items c.ports ++ is) (set_end_link_at (get_or c.links 7 None) x (drop 6 c.numbers) (two_behind c eight))))
     ∙ (λ t. link_items (sym (take-set-le 7 c.links 7 x (omega arith)) t) ++ (first_items (take 6 c.numbers) ++ (port_items c.ports ++ end_items (sym (get_or-set_same c.links 7 x None (omega (arith, e))) t) (drop 6 c.numbers))))

@@ -70,13 +70,13 @@ more_links zero = refl
 more_links (suc n) = ap (λ is. link_to None ∷ is) (more_links n)
 
 -- how many words ports have
-pub count_ports : (n : ℕ) → length (blank_ports n) ≡ n * 3
+pub count_ports : (n : ℕ) → length (blank_ports n) ≡ n * 2
 count_ports zero = refl
 count_ports (suc n) = let r = count_ports n in omega (arith, r)
 
-more_ports : (n : ℕ) → ((blank_ports n ++ link_to None ∷ []) ++ number 0 ∷ []) ++ number 0 ∷ [] ≡ blank_ports (suc n)
+more_ports : (n : ℕ) → (blank_ports n ++ link_to None ∷ []) ++ number 0 ∷ [] ≡ blank_ports (suc n)
 more_ports zero = refl
-more_ports (suc n) = ap (λ is. link_to None ∷ number 0 ∷ number 0 ∷ is) (more_ports n)
+more_ports (suc n) = ap (λ is. link_to None ∷ number 0 ∷ is) (more_ports n)
 
 -- a step of each loop, with the words written out
 
@@ -87,34 +87,25 @@ links_next old rows rows' b k left f r = subst (λ done. Filled old rows' b done
 abbrev head_ports : ℕ → List Item
 head_ports j = blank_links 7 ++ (blank_numbers ++ blank_ports j)
 
-count_head : (j : ℕ) → length (head_ports j) ≡ 12 + j * 3
+count_head : (j : ℕ) → length (head_ports j) ≡ 12 + j * 2
 count_head j = let n = count_ports j in omega (arith, n)
 
 abbrev port_one : ℕ → List Item
 port_one j = head_ports j ++ link_to None ∷ []
 
-abbrev port_two : ℕ → List Item
-port_two j = port_one j ++ number 0 ∷ []
-
 count_more : (xs : List Item) (i : Item) → length (xs ++ i ∷ []) ≡ suc (length xs)
 count_more [] i = refl
 count_more (x ∷ xs) i = ap suc (count_more xs i)
 
-count_one : (j : ℕ) → length (port_one j) ≡ 12 + j * 3 + 1
+count_one : (j : ℕ) → length (port_one j) ≡ 12 + j * 2 + 1
 count_one j = let a = count_more (head_ports j) (link_to None) in let b = count_head j in omega (arith, a, b)
 
-count_two : (j : ℕ) → length (port_two j) ≡ 12 + j * 3 + 2
-count_two j = let a = count_more (port_one j) (number 0) in let b = count_one j in omega (arith, a, b)
+ports_one : (old rows rows' : List Row) (b j left : ℕ) → Filled old rows b (head_ports j) (suc left) → rows' ≡ with_items b (set (items_in rows b) (12 + j * 2) (link_to None)) rows → Filled old rows' b (port_one j) left
+ports_one old rows rows' b j left f r = next old rows rows' b (head_ports j) left (12 + j * 2) (link_to None) f (sym (count_head j)) r
 
-ports_one : (old rows rows' : List Row) (b j left : ℕ) → Filled old rows b (head_ports j) (suc left) → rows' ≡ with_items b (set (items_in rows b) (12 + j * 3) (link_to None)) rows → Filled old rows' b (port_one j) left
-ports_one old rows rows' b j left f r = next old rows rows' b (head_ports j) left (12 + j * 3) (link_to None) f (sym (count_head j)) r
-
-ports_two : (old rows rows' : List Row) (b j left : ℕ) → Filled old rows b (port_one j) (suc left) → rows' ≡ with_items b (set (items_in rows b) (12 + j * 3 + 1) (number 0)) rows → Filled old rows' b (port_two j) left
-ports_two old rows rows' b j left f r = next old rows rows' b (port_one j) left (12 + j * 3 + 1) (number 0) f (sym (count_one j)) r
-
-ports_three : (old rows rows' : List Row) (b j left : ℕ) → Filled old rows b (port_two j) (suc left) → rows' ≡ with_items b (set (items_in rows b) (12 + j * 3 + 2) (number 0)) rows → Filled old rows' b (head_ports (suc j)) left
-ports_three old rows rows' b j left f r =
-    subst (λ done. Filled old rows' b (blank_links 7 ++ (blank_numbers ++ done)) left) (more_ports j) (next old rows rows' b (port_two j) left (12 + j * 3 + 2) (number 0) f (sym (count_two j)) r)
+ports_two : (old rows rows' : List Row) (b j left : ℕ) → Filled old rows b (port_one j) (suc left) → rows' ≡ with_items b (set (items_in rows b) (12 + j * 2 + 1) (number 0)) rows → Filled old rows' b (head_ports (suc j)) left
+ports_two old rows rows' b j left f r =
+    subst (λ done. Filled old rows' b (blank_links 7 ++ (blank_numbers ++ done)) left) (more_ports j) (next old rows rows' b (port_one j) left (12 + j * 2 + 1) (number 0) f (sym (count_one j)) r)
 
 begun : (old : List Row) (b : ℕ) (done : List Item) (left : ℕ) → 0 < length done + left → items_in old b ≡ done ++ replicate left blank → Filled old old b done left
 begun old b done left l e = record {
@@ -130,7 +121,7 @@ LinksDone old rows b n k = (left : ℕ) × (left + k ≡ n) × Filled old rows b
 
 -- the links, the numbers and so many ports are written
 abbrev pub PortsDone : List Row → List Row → ℕ → ℕ → ℕ → Type 0
-PortsDone old rows b p j = (left : ℕ) × (left + j * 3 ≡ p * 3) × Filled old rows b (blank_links 7 ++ (blank_numbers ++ blank_ports j)) left
+PortsDone old rows b p j = (left : ℕ) × (left + j * 2 ≡ p * 2) × Filled old rows b (blank_links 7 ++ (blank_numbers ++ blank_ports j)) left
 
 plus_one : (k : ℕ) → suc k ≡ k + 1
 plus_one k = omega arith
@@ -157,62 +148,47 @@ links_end old rows b left k d e = let w = d.1 in let n : d.0 ≡ left = omega (a
 
 -- so many ports are written at first
 pub ports_begin : (old : List Row) (b p j : ℕ) → j < p → items_in old b ≡ ports_filled p j → PortsDone old old b p j
-ports_begin old b p j low e = ((p - j) * 3, omega (arith, low), begun old b (head_ports j) ((p - j) * 3) (omega arith) e)
+ports_begin old b p j low e = ((p - j) * 2, omega (arith, low), begun old b (head_ports j) ((p - j) * 2) (omega arith) e)
 
 -- the first word of the next port is one of the row
-pub ports_there : (old rows : List Row) (b p j : ℕ) → PortsDone old rows b p j → j < p → 12 + j * 3 < length (items_in rows b)
-ports_there old rows b p j d low = let e = d.1 in next_there old rows b (head_ports j) d.0 (12 + j * 3) d.2 (sym (count_head j)) (omega (arith, e, low))
+pub ports_there : (old rows : List Row) (b p j : ℕ) → PortsDone old rows b p j → j < p → 12 + j * 2 < length (items_in rows b)
+ports_there old rows b p j d low = let e = d.1 in next_there old rows b (head_ports j) d.0 (12 + j * 2) d.2 (sym (count_head j)) (omega (arith, e, low))
 
--- the same after one and two of the three
+-- the same after one of the two
 abbrev pub OneDone : List Row → List Row → ℕ → ℕ → ℕ → Type 0
-OneDone old rows b p j = (left : ℕ) × (left + j * 3 + 1 ≡ p * 3) × Filled old rows b (port_one j) left
+OneDone old rows b p j = (left : ℕ) × (left + j * 2 + 1 ≡ p * 2) × Filled old rows b (port_one j) left
 
-abbrev TwoDone : List Row → List Row → ℕ → ℕ → ℕ → Type 0
-TwoDone old rows b p j = (left : ℕ) × (left + j * 3 + 2 ≡ p * 3) × Filled old rows b (port_two j) left
-
-one_more : (old rows rows' : List Row) (b p j left : ℕ) → left + j * 3 ≡ p * 3 → Filled old rows b (head_ports j) left → j < p → rows' ≡ with_items b (set (items_in rows b) (12 + j * 3) (link_to None)) rows → OneDone old rows' b p j
+one_more : (old rows rows' : List Row) (b p j left : ℕ) → left + j * 2 ≡ p * 2 → Filled old rows b (head_ports j) left → j < p → rows' ≡ with_items b (set (items_in rows b) (12 + j * 2) (link_to None)) rows → OneDone old rows' b p j
 one_more old rows rows' b p j zero e f low r = absurd (omega (arith, e, low))
 one_more old rows rows' b p j (suc left) e f low r = (left, omega (arith, e), ports_one old rows rows' b j left f r)
 
 -- the first word of a port is written
-pub first_word : (old rows rows' : List Row) (b p j : ℕ) → PortsDone old rows b p j → j < p → rows' ≡ with_items b (set (items_in rows b) (12 + j * 3) (link_to None)) rows → OneDone old rows' b p j
+pub first_word : (old rows rows' : List Row) (b p j : ℕ) → PortsDone old rows b p j → j < p → rows' ≡ with_items b (set (items_in rows b) (12 + j * 2) (link_to None)) rows → OneDone old rows' b p j
 first_word old rows rows' b p j d low r = one_more old rows rows' b p j d.0 d.1 d.2 low r
 
 -- its second word is one of the row
-pub second_there : (old rows : List Row) (b p j : ℕ) → OneDone old rows b p j → j < p → 12 + j * 3 + 1 < length (items_in rows b)
-second_there old rows b p j d low = let e = d.1 in next_there old rows b (port_one j) d.0 (12 + j * 3 + 1) d.2 (sym (count_one j)) (omega (arith, e, low))
+pub second_there : (old rows : List Row) (b p j : ℕ) → OneDone old rows b p j → j < p → 12 + j * 2 + 1 < length (items_in rows b)
+second_there old rows b p j d low = let e = d.1 in next_there old rows b (port_one j) d.0 (12 + j * 2 + 1) d.2 (sym (count_one j)) (omega (arith, e, low))
 
-two_more : (old rows rows' : List Row) (b p j left : ℕ) → left + j * 3 + 1 ≡ p * 3 → Filled old rows b (port_one j) left → j < p → rows' ≡ with_items b (set (items_in rows b) (12 + j * 3 + 1) (number 0)) rows → TwoDone old rows' b p j
+two_more : (old rows rows' : List Row) (b p j left : ℕ) → left + j * 2 + 1 ≡ p * 2 → Filled old rows b (port_one j) left → j < p → rows' ≡ with_items b (set (items_in rows b) (12 + j * 2 + 1) (number 0)) rows → PortsDone old rows' b p (j + 1)
 two_more old rows rows' b p j zero e f low r = absurd (omega (arith, e, low))
-two_more old rows rows' b p j (suc left) e f low r = (left, omega (arith, e), ports_two old rows rows' b j left f r)
+two_more old rows rows' b p j (suc left) e f low r = (left, omega (arith, e), subst (λ n. Filled old rows' b (head_ports n) left) (plus_one j) (ports_two old rows rows' b j left f r))
 
--- its second word is written
-pub second_word : (old rows rows' : List Row) (b p j : ℕ) → OneDone old rows b p j → j < p → rows' ≡ with_items b (set (items_in rows b) (12 + j * 3 + 1) (number 0)) rows → TwoDone old rows' b p j
+-- its second word is written: one more port
+pub second_word : (old rows rows' : List Row) (b p j : ℕ) → OneDone old rows b p j → j < p → rows' ≡ with_items b (set (items_in rows b) (12 + j * 2 + 1) (number 0)) rows → PortsDone old rows' b p (j + 1)
 second_word old rows rows' b p j d low r = two_more old rows rows' b p j d.0 d.1 d.2 low r
-
--- its third word is one of the row
-pub third_there : (old rows : List Row) (b p j : ℕ) → TwoDone old rows b p j → j < p → 12 + j * 3 + 2 < length (items_in rows b)
-third_there old rows b p j d low = let e = d.1 in next_there old rows b (port_two j) d.0 (12 + j * 3 + 2) d.2 (sym (count_two j)) (omega (arith, e, low))
-
-three_more : (old rows rows' : List Row) (b p j left : ℕ) → left + j * 3 + 2 ≡ p * 3 → Filled old rows b (port_two j) left → j < p → rows' ≡ with_items b (set (items_in rows b) (12 + j * 3 + 2) (number 0)) rows → PortsDone old rows' b p (j + 1)
-three_more old rows rows' b p j zero e f low r = absurd (omega (arith, e, low))
-three_more old rows rows' b p j (suc left) e f low r = (left, omega (arith, e), subst (λ n. Filled old rows' b (head_ports n) left) (plus_one j) (ports_three old rows rows' b j left f r))
-
--- its third word is written: one more port
-pub third_word : (old rows rows' : List Row) (b p j : ℕ) → TwoDone old rows b p j → j < p → rows' ≡ with_items b (set (items_in rows b) (12 + j * 3 + 2) (number 0)) rows → PortsDone old rows' b p (j + 1)
-third_word old rows rows' b p j d low r = three_more old rows rows' b p j d.0 d.1 d.2 low r
 
 -- what is written then
 pub ports_are : (old rows : List Row) (b p j : ℕ) → PortsDone old rows b p j → rows ≡ with_items b (ports_filled p j) old
-ports_are old rows b p j d = let e = d.1 in let n : d.0 ≡ (p - j) * 3 = omega (arith, e) in d.2.are ∙ (λ t. with_items b (head_ports j ++ replicate (n t) blank) old)
+ports_are old rows b p j d = let e = d.1 in let n : d.0 ≡ (p - j) * 2 = omega (arith, e) in d.2.are ∙ (λ t. with_items b (head_ports j ++ replicate (n t) blank) old)
 
 -- no port is written
-pub ports_none : (p : ℕ) → blank_links 7 ++ (blank_numbers ++ replicate (p * 3) blank) ≡ ports_filled p 0
-ports_none p = let n : p * 3 ≡ (p - 0) * 3 = omega arith in λ t. blank_links 7 ++ (blank_numbers ++ replicate (n t) blank)
+pub ports_none : (p : ℕ) → blank_links 7 ++ (blank_numbers ++ replicate (p * 2) blank) ≡ ports_filled p 0
+ports_none p = let n : p * 2 ≡ (p - 0) * 2 = omega arith in λ t. blank_links 7 ++ (blank_numbers ++ replicate (n t) blank)
 
 -- all ports are
 pub ports_all : (p j : ℕ) → j ≡ p → ports_filled p j ≡ cell_items (blank_cell p)
-ports_all p j same = let n : (p - j) * 3 ≡ 0 = omega (arith, same) in λ t. blank_links 7 ++ (blank_numbers ++ (blank_ports (same t) ++ replicate (n t) blank))
+ports_all p j same = let n : (p - j) * 2 ≡ 0 = omega (arith, same) in λ t. blank_links 7 ++ (blank_numbers ++ (blank_ports (same t) ++ replicate (n t) blank))
 
 -- one step behind another
 pub then : (old rows rows' : List Row) (b : ℕ) (is js : List Item) → rows ≡ with_items b is old → rows' ≡ with_items b js rows → rows' ≡ with_items b js old
@@ -233,7 +209,7 @@ and_written old rows rows' b k is i there e r = then old rows rows' b is (set is
 -- The words of a membrane before its port is written, and after each of the words at its end is
 
 abbrev pub end_none : List Item
-end_none = blank_links 7 ++ (blank_numbers ++ replicate 6 blank)
+end_none = blank_links 7 ++ (blank_numbers ++ replicate 5 blank)
 
 abbrev pub end_one : List Item
 end_one = set end_none 12 (link_to None)
@@ -246,9 +222,6 @@ end_three = set end_two 14 (number 0)
 
 abbrev pub end_four : List Item
 end_four = set end_three 15 (number 0)
-
-abbrev pub end_five : List Item
-end_five = set end_four 16 (number 0)
 
 -- at first none is
 pub end_begun : (old : List Row) (b : ℕ) → items_in old b ≡ end_none → old ≡ with_items b end_none old

@@ -20,11 +20,16 @@ none_is (suc n) (suc k) = none_is n k
 small_none : (n k : ℕ) → k < 2 → get_or (replicate n 0) k 0 < 2 ^ 32
 small_none n k low = let e = none_is n k in omega (arith, e)
 
-blank_shaped : (p : ℕ) → p < 2 ^ 16 → IsShaped (blank_cell p)
-blank_shaped p few = record { links = refl; numbers = inl (refl, refl); small = small_none 6; few = subst (λ n. n < 2 ^ 16) (sym (length-replicate p no_port)) few }
+narrow_none : (n k : ℕ) → (get_or (replicate n no_port) k no_port).port < 256
+narrow_none zero k = omega arith
+narrow_none (suc n) zero = omega arith
+narrow_none (suc n) (suc k) = narrow_none n k
+
+blank_shaped : (p : ℕ) → p < 256 → IsShaped (blank_cell p)
+blank_shaped p few = record { links = refl; numbers = inl (refl, refl); small = small_none 6; few = subst (λ n. n < 256) (sym (length-replicate p no_port)) few; narrow = narrow_none p }
 
 membrane_shaped : IsShaped blank_membrane
-membrane_shaped = record { links = refl; numbers = inr (refl, refl); small = small_none 8; few = omega arith }
+membrane_shaped = record { links = refl; numbers = inr (refl, refl); small = small_none 8; few = omega arith; narrow = narrow_none 1 }
 
 -- the rows after a call, as cells
 pub record Cells (old new : List Row) (b : ℕ) (c : Option HeldCell) : Type 0 where
@@ -51,12 +56,12 @@ made_cell old mid new b words c laid shaped some m e =
     (λ j d. ap (λ (z : List Row). items_in z j) e ∙ items_away mid b is j d ∙ m.others j d)
 
 -- that of an atom
-pub made : (old mid new : List Row) (b p : ℕ) → AreLaid old → p < 2 ^ 16 → IsMade old mid b (12 + p * 3) → new ≡ with_items b (cell_items (blank_cell p)) mid → Cells old new b (Some (blank_cell p))
-made old mid new b p laid few m e = made_cell old mid new b (12 + p * 3) (blank_cell p) laid (blank_shaped p few) (omega arith) m e
+pub made : (old mid new : List Row) (b p : ℕ) → AreLaid old → p < 256 → IsMade old mid b (12 + p * 2) → new ≡ with_items b (cell_items (blank_cell p)) mid → Cells old new b (Some (blank_cell p))
+made old mid new b p laid few m e = made_cell old mid new b (12 + p * 2) (blank_cell p) laid (blank_shaped p few) (omega arith) m e
 
 -- and of a membrane
-pub made_membrane : (old mid new : List Row) (b : ℕ) → AreLaid old → IsMade old mid b 18 → new ≡ with_items b (cell_items blank_membrane) mid → Cells old new b (Some blank_membrane)
-made_membrane old mid new b laid m e = made_cell old mid new b 18 blank_membrane laid membrane_shaped (omega arith) m e
+pub made_membrane : (old mid new : List Row) (b : ℕ) → AreLaid old → IsMade old mid b 17 → new ≡ with_items b (cell_items blank_membrane) mid → Cells old new b (Some blank_membrane)
+made_membrane old mid new b laid m e = made_cell old mid new b 17 blank_membrane laid membrane_shaped (omega arith) m e
 
 -- the cells after one was freed
 pub freed : (old new : List Row) (b : ℕ) → AreLaid old → IsGone old new b → Cells old new b None
@@ -70,22 +75,22 @@ pub cells_same : (old new : List Row) → HaveSameWords old new → cells_by new
 cells_same old new h = λ t j. cell_by (h j t)
 
 -- a cell has few ports
-pub few_ports : (rows : List Row) (b p : ℕ) → AreLaid rows → IsSome (cells_by rows b) → length (ports_of (cells_by rows b)) ≡ p → p < 2 ^ 16
+pub few_ports : (rows : List Row) (b p : ℕ) → AreLaid rows → IsSome (cells_by rows b) → length (ports_of (cells_by rows b)) ≡ p → p < 256
 few_ports rows b p laid there e =
     let f = found rows b laid there in let few = f.shaped.few in let same : length f.cell.ports ≡ p = sym (ap (λ (o : Option HeldCell). length (ports_of o)) f.is) ∙ e in omega (arith, few, same)
 
 -- how many words the row of a cell has
-pub count_words : (rows : List Row) (b p : ℕ) → AreLaid rows → IsSome (cells_by rows b) → length (numbers_of (cells_by rows b)) ≡ 6 → length (ports_of (cells_by rows b)) ≡ p → length (items_in rows b) ≡ 12 + p * 3
+pub count_words : (rows : List Row) (b p : ℕ) → AreLaid rows → IsSome (cells_by rows b) → length (numbers_of (cells_by rows b)) ≡ 6 → length (ports_of (cells_by rows b)) ≡ p → length (items_in rows b) ≡ 12 + p * 2
 count_words rows b p laid there six e =
     let f = found rows b laid there in let same : length f.cell.ports ≡ p = sym (ap (λ (o : Option HeldCell). length (ports_of o)) f.is) ∙ e in
-    let n : length f.cell.numbers ≡ 6 = sym (ap (λ (o : Option HeldCell). length (numbers_of o)) f.is) ∙ six in let w = word_count f.cell f.shaped in let z = atom_count f.cell n in let e : length (cell_items f.cell) ≡ 12 + p * 3 = omega (arith, w, z, same) in
+    let n : length f.cell.numbers ≡ 6 = sym (ap (λ (o : Option HeldCell). length (numbers_of o)) f.is) ∙ six in let w = word_count f.cell f.shaped in let z = atom_count f.cell n in let e : length (cell_items f.cell) ≡ 12 + p * 2 = omega (arith, w, z, same) in
     ap (λ (is : List Item). length is) f.words ∙ e
 
 -- and that of a membrane
-pub count_membrane : (rows : List Row) (b : ℕ) → AreLaid rows → IsSome (cells_by rows b) → length (numbers_of (cells_by rows b)) ≡ 8 → length (items_in rows b) ≡ 18
+pub count_membrane : (rows : List Row) (b : ℕ) → AreLaid rows → IsSome (cells_by rows b) → length (numbers_of (cells_by rows b)) ≡ 8 → length (items_in rows b) ≡ 17
 count_membrane rows b laid there eight =
     let f = found rows b laid there in let n : length f.cell.numbers ≡ 8 = sym (ap (λ (o : Option HeldCell). length (numbers_of o)) f.is) ∙ eight in let w = word_count f.cell f.shaped in
-    let e : length (cell_items f.cell) ≡ 18 = elim f.shaped.numbers [
+    let e : length (cell_items f.cell) ≡ 17 = elim f.shaped.numbers [
       | inl six ↦ (let e = six.0 in absurd (omega (arith, e, n)))
       | inr e ↦ (let one = e.1 in let z = membrane_count f.cell n in omega (arith, w, z, one))
     ] in
@@ -95,7 +100,7 @@ count_membrane rows b laid there eight =
 
 -- one of the first seven is its own number
 pub link_itself : (word : ℕ) → word < 7 → link_of word ≡ word
-link_itself word low = if_no (word == 17) 7 word (not_equal word 17 (λ (e : word ≡ 17). absurd (omega (arith, e, low))))
+link_itself word low = if_no (word == 16) 7 word (not_equal word 16 (λ (e : word ≡ 16). absurd (omega (arith, e, low))))
 
 -- a word of a link is one of the first
 pub word_small : (c : Option HeldCell) (word : ℕ) → IsLinkWord c word → word < 2 ^ 32

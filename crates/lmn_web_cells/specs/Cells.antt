@@ -1,5 +1,5 @@
 -- Cells: what the words of a row stand for.
-use Rattle.std.specs.Prelude.{◌≡◌, ◌⊎◌, Bool, true, false, ℕ, zero, suc, ◌==◌, ◌<◌, ◌^◌, List, [], ◌∷◌, ◌++◌, length, take, drop, Option, Some, None, IsSome, if◌then◌else◌, slice_index_or, slice_set, replicate}
+use Rattle.std.specs.Prelude.{◌≡◌, ◌⊎◌, Bool, true, false, ℕ, zero, suc, ◌+◌, ◌*◌, ◌/◌, ◌%◌, ◌==◌, ◌<◌, ◌^◌, List, [], ◌∷◌, ◌++◌, length, take, drop, Option, Some, None, IsSome, if◌then◌else◌, slice_index_or, slice_set, replicate}
 use denote.RawPtr.{Ptr, block_ptr, null_ptr}
 use Rattle.lmn_web_cells.specs.Rows.{Item, blank, link, number, halves, halves_in, Row, items_in, place_of, place_ptr}
 
@@ -8,6 +8,10 @@ pub record HeldPort : Type 0 where
   pub to : Option ℕ
   pub port : ℕ
   pub mark : ℕ
+
+-- a port in which nothing is set
+abbrev pub no_port : HeldPort
+no_port = record { to = None; port = 0; mark = 0 }
 
 -- a cell: eight links, six numbers or, of a membrane, eight, and its ports, of which a membrane has one; the last link of an atom leads nowhere
 pub record HeldCell : Type 0 where
@@ -34,10 +38,14 @@ abbrev pub number_items : List ℕ → List Item
 number_items [] = []
 number_items (n ∷ ns) = number n ∷ number_items ns
 
--- three words for each port
+-- the port there and the mark, as one number: the port is below 256
+abbrev pub port_and_mark : HeldPort → ℕ
+port_and_mark p = p.mark * 256 + p.port
+
+-- two words for each port
 abbrev pub port_items : List HeldPort → List Item
 port_items [] = []
-port_items (p ∷ ps) = link_to p.to ∷ number p.port ∷ number p.mark ∷ port_items ps
+port_items (p ∷ ps) = link_to p.to ∷ number (port_and_mark p) ∷ port_items ps
 
 -- the first six numbers: two small ones in the halves of a word, and four in words of their own
 abbrev pub first_items : List ℕ → List Item
@@ -99,19 +107,18 @@ is_number (Some (Some p, n)) = false
 abbrev pub ports_by : List Item → List HeldPort
 ports_by [] = []
 ports_by (i ∷ []) = []
-ports_by (i ∷ j ∷ []) = []
-ports_by (i ∷ j ∷ k ∷ is) = if is_number i then [] else record { to = led_to i; port = number_by j; mark = number_by k } ∷ ports_by is
+ports_by (i ∷ j ∷ is) = if is_number i then [] else record { to = led_to i; port = number_by j % 256; mark = number_by j / 256 } ∷ ports_by is
 
 -- a membrane has a number behind its first port, and no atom has
 abbrev pub is_membrane : List Item → Bool
-is_membrane is = is_number (slice_index_or is 15 blank)
+is_membrane is = is_number (slice_index_or is 14 blank)
 
 -- the two numbers and the link at the end of a membrane's row
 abbrev pub last_numbers : List Item → List ℕ
-last_numbers is = if is_membrane is then first_numbers 2 (drop 15 is) else []
+last_numbers is = if is_membrane is then first_numbers 2 (drop 14 is) else []
 
 abbrev pub last_link : List Item → Option ℕ
-last_link is = if is_membrane is then led_to (slice_index_or is 17 blank) else None
+last_link is = if is_membrane is then led_to (slice_index_or is 16 blank) else None
 
 abbrev pub cell_by : List Item → Option HeldCell
 cell_by [] = None
@@ -121,12 +128,13 @@ cell_by (i ∷ is) = Some record { links = first_links 7 (i ∷ is) ++ last_link
 abbrev pub cells_by : List Row → ℕ → Option HeldCell
 cells_by rows b = cell_by (items_in rows b)
 
--- A cell has eight links. An atom has six numbers, and its last link leads nowhere; a membrane has eight and one port. The first two numbers are small, and there are fewer than 2 ^ 16 ports.
+-- A cell has eight links. An atom has six numbers, and its last link leads nowhere; a membrane has eight and one port. The first two numbers are small, and there are fewer than 256 ports, which lead to ports with numbers below 256.
 pub record IsShaped (c : HeldCell) : Type 0 where
   pub links : length c.links ≡ 8
   pub numbers : ((length c.numbers ≡ 6) × (slice_index_or c.links 7 None ≡ None)) ⊎ ((length c.numbers ≡ 8) × (length c.ports ≡ 1))
   pub small : (k : ℕ) → k < 2 → slice_index_or c.numbers k 0 < 2 ^ 32
-  pub few : length c.ports < 2 ^ 16
+  pub few : length c.ports < 256
+  pub narrow : (j : ℕ) → (slice_index_or c.ports j no_port).port < 256
 
 -- words are those of a cell, or there are none
 abbrev pub IsLaid : List Item → Type 0
@@ -149,19 +157,16 @@ abbrev pub ports_of : Option HeldCell → List HeldPort
 ports_of None = []
 ports_of (Some c) = c.ports
 
-abbrev pub no_port : HeldPort
-no_port = record { to = None; port = 0; mark = 0 }
-
 abbrev pub port_of : Option HeldCell → ℕ → HeldPort
 port_of c j = slice_index_or (ports_of c) j no_port
 
 -- a word of a cell is a link: one of the first seven, or the last one of a membrane
 abbrev pub IsLinkWord : Option HeldCell → ℕ → Type 0
-IsLinkWord c word = (word < 7) ⊎ ((word ≡ 17) × (length (numbers_of c) ≡ 8))
+IsLinkWord c word = (word < 7) ⊎ ((word ≡ 16) × (length (numbers_of c) ≡ 8))
 
 -- the link in a word
 abbrev pub link_of : ℕ → ℕ
-link_of word = if word == 17 then 7 else word
+link_of word = if word == 16 then 7 else word
 
 -- Changes of a cell
 
@@ -203,3 +208,7 @@ blank_ports n = port_items (replicate n no_port)
 -- each cell that is there has eight links
 abbrev pub HaveLinks : (ℕ → Option HeldCell) → Type 0
 HaveLinks f = (a : ℕ) → IsSome (f a) → length (links_of (f a)) ≡ 8
+
+-- each port of a cell has a number below 256
+abbrev pub HaveFewPorts : (ℕ → Option HeldCell) → Type 0
+HaveFewPorts f = (a j : ℕ) → j < length (ports_of (f a)) → j < 256

@@ -1,8 +1,8 @@
-//! Cells: rows with seven links, six numbers, of which two have half a word each, and three words for each port, of which a membrane has one, and behind it two
+//! Cells: rows with seven links, six numbers, of which two have half a word each, and two words for each port, of which a membrane has one, and behind it two
 //! numbers and a link more.
 ghost use Rattle.std.specs.Prelude.{◌≡◌, ℕ, ◌+◌, ◌*◌, ◌^◌, ◌<◌, ◌≤◌, ◌∷◌, length, IsSome, None, Some, MatchResult, slice_index_or};
 ghost use Rattle.std.specs.Option.{option_map};
-ghost use Rattle.lmn_web_cells.specs.Cells.{cells_by, links_of, numbers_of, ports_of, port_of, with_link, with_number, with_to, with_port, with_mark, pointer_to, blank_cell, blank_membrane, HaveLinks, IsLinkWord, link_of};
+ghost use Rattle.lmn_web_cells.specs.Cells.{cells_by, links_of, numbers_of, ports_of, port_of, with_link, with_number, with_to, with_port, with_mark, pointer_to, blank_cell, blank_membrane, HaveFewPorts, HaveLinks, IsLinkWord, link_of};
 ghost use Rattle.lmn_store_heap.specs.Heap.{alter};
 ghost use Rattle.lmn_web_cells.specs.CellIds.{cell_id, IsLink, led_by};
 
@@ -16,12 +16,13 @@ use lmn_web_rows::store::Store;
 use std::alloc::{AllocError, Global};
 use std::marker::Model;
 
-// Where the words of a port stand among them.
+// Where the words of a port stand among them: where it leads, and the number of the port there with the mark.
 const TO: usize = 0;
 
-const PORT: usize = 1;
+const NUMBER: usize = 1;
 
-const MARK: usize = 2;
+// Below this are the numbers of ports.
+const PORTS: u64 = 256;
 
 /// The cells, many of them side by side in one block. The memory of a cell that was freed is used for the next one with as many
 /// words, so that of cells with as many words there is never memory for more than lived at once.
@@ -60,7 +61,7 @@ impl Cells {
     /// A new cell of an atom, in which nothing is set.
     #[inline(always)]
     pub fn make(&mut self, ports: usize) -> Result<Cell, AllocError>
-        requires { ports < 2 ^ 16 }
+        requires { ports < 256 }
         ensures { MatchResult result
             (λ c. (cells_by self.old (cell_id c) ≡ None) × (cells_by self.new ≡ alter (cells_by self.old) (cell_id c) (λ _. Some (blank_cell ports))))
             (λ _. cells_by self.new ≡ cells_by self.old) }
@@ -111,6 +112,14 @@ impl Cells {
     /// Each cell has eight links, of which an atom's last one leads nowhere.
     pub fn whole(&self)
         ensures { HaveLinks (cells_by self.now) }
+    {
+        let _ = &self.rows;
+    }
+
+    /// Each port has a number below 256.
+    #[inline(always)]
+    pub fn few_ports(&self)
+        ensures { HaveFewPorts (cells_by self.now) }
     {
         let _ = &self.rows;
     }
@@ -221,23 +230,25 @@ impl Cells {
             .set_link(c.at, FIRST_PORT + (j * PORT_WORDS + TO), pointer_of(to));
     }
 
-    /// The number of the port to which a port leads.
+    /// The number of the port to which a port leads, which is below 256.
     pub fn port(&self, c: Cell, j: usize) -> u64
         requires there { IsSome (cells_by self.now (cell_id c)) }
         requires below { j < length (ports_of (cells_by self.now (cell_id c))) }
         ensures { result ≡ (port_of (cells_by self.now (cell_id c)) j).port }
     {
-        self.rows.number(c.at, FIRST_PORT + (j * PORT_WORDS + PORT))
+        self.rows.number(c.at, number_word(j)) % PORTS
     }
 
-    /// The number of the port to which a port leads is another.
+    /// The number of the port to which a port leads is another, below 256.
     pub fn set_port(&mut self, c: Cell, j: usize, n: u64)
         requires there { IsSome (cells_by self.old (cell_id c)) }
         requires below { j < length (ports_of (cells_by self.old (cell_id c))) }
+        requires small { n < 256 }
         ensures { cells_by self.new ≡ alter (cells_by self.old) (cell_id c) (option_map (with_port j n)) }
     {
+        let mark = self.rows.number(c.at, number_word(j)) / PORTS;
         self.rows
-            .set_number(c.at, FIRST_PORT + (j * PORT_WORDS + PORT), n);
+            .set_number(c.at, number_word(j), port_and_mark(n, mark));
     }
 
     /// The mark of a port.
@@ -246,18 +257,39 @@ impl Cells {
         requires below { j < length (ports_of (cells_by self.now (cell_id c))) }
         ensures { result ≡ (port_of (cells_by self.now (cell_id c)) j).mark }
     {
-        self.rows.number(c.at, FIRST_PORT + (j * PORT_WORDS + MARK))
+        self.rows.number(c.at, number_word(j)) / PORTS
     }
 
-    /// The mark of a port is another.
+    /// The mark of a port is another, below 2^56.
     pub fn set_mark(&mut self, c: Cell, j: usize, n: u64)
         requires there { IsSome (cells_by self.old (cell_id c)) }
         requires below { j < length (ports_of (cells_by self.old (cell_id c))) }
+        requires small { n < 2 ^ 56 }
         ensures { cells_by self.new ≡ alter (cells_by self.old) (cell_id c) (option_map (with_mark j n)) }
     {
+        let port = self.rows.number(c.at, number_word(j)) % PORTS;
         self.rows
-            .set_number(c.at, FIRST_PORT + (j * PORT_WORDS + MARK), n);
+            .set_number(c.at, number_word(j), port_and_mark(port, n));
     }
+}
+
+// The word with the number of the port to which a port leads, and with the mark.
+#[inline(always)]
+fn number_word(j: usize) -> usize
+    requires { j < 256 }
+    ensures { result ≡ 12 + (j * 2 + 1) }
+{
+    FIRST_PORT + (j * PORT_WORDS + NUMBER)
+}
+
+// The number of a port and a mark, as one number.
+#[inline(always)]
+fn port_and_mark(port: u64, mark: u64) -> u64
+    requires port { port < 256 }
+    requires mark { mark < 2 ^ 56 }
+    ensures { result ≡ mark * 256 + port }
+{
+    mark * PORTS + port
 }
 
 /// The pointer to a cell, or to nowhere.

@@ -1,5 +1,5 @@
 //! The words of a new row are written, so that it is a cell of an atom, or of a membrane.
-ghost use Rattle.std.specs.Prelude.{◌≡◌, ◌+◌, ◌*◌, ◌^◌, ◌<◌, ◌≤◌, ◌++◌, replicate};
+ghost use Rattle.std.specs.Prelude.{◌≡◌, ◌+◌, ◌*◌, ◌<◌, ◌≤◌, ◌++◌, replicate};
 ghost use Rattle.lmn_web_cells.specs.Rows.{IsStart, blank, items_in, with_items, place_of};
 ghost use Rattle.lmn_web_cells.specs.Fillings.{ports_filled};
 ghost use Rattle.lmn_web_cells.specs.Cells.{link_items, number_items, cell_items, blank_cell, blank_membrane, blank_links, blank_numbers};
@@ -20,7 +20,7 @@ const NUMBER_WORDS: usize = 5;
 pub const FIRST_PORT: usize = LINKS + NUMBER_WORDS;
 
 /// How many words a port has.
-pub const PORT_WORDS: usize = 3;
+pub const PORT_WORDS: usize = 2;
 
 /// The word of a membrane that is its last link: a port and two numbers stand before it.
 pub const LAST_LINK_WORD: usize = FIRST_PORT + PORT_WORDS + 2;
@@ -31,8 +31,8 @@ pub const MEMBRANE_WORDS: usize = LAST_LINK_WORD + 1;
 /// How many words the cell of an atom with so many ports has.
 #[inline(always)]
 pub fn atom_words(ports: usize) -> usize
-    requires { ports < 2 ^ 16 }
-    ensures { result ≡ 12 + ports * 3 }
+    requires { ports < 256 }
+    ensures { result ≡ 12 + ports * 2 }
 {
     FIRST_PORT + ports * PORT_WORDS
 }
@@ -69,20 +69,19 @@ fn fill_numbers(rows: &mut Store, at: *mut u8, left: usize)
 #[inline(always)]
 fn fill_port(rows: &mut Store, at: *mut u8, ports: usize, j: usize)
     requires start { IsStart at }
-    requires few { ports < 2 ^ 16 }
+    requires few { ports < 256 }
     requires below { j < ports }
     requires words { items_in rows.old.rows (place_of at) ≡ ports_filled ports j }
     ensures { rows.new.rows ≡ with_items (place_of at) (ports_filled ports (j + 1)) rows.old.rows }
 {
     rows.set_link(at, FIRST_PORT + j * PORT_WORDS, nowhere());
     rows.set_number(at, FIRST_PORT + j * PORT_WORDS + 1, 0);
-    rows.set_number(at, FIRST_PORT + j * PORT_WORDS + 2, 0);
 }
 
 // No port from this one on leads anywhere.
 fn fill_from(rows: &mut Store, at: *mut u8, ports: usize, first: usize)
     requires start { IsStart at }
-    requires few { ports < 2 ^ 16 }
+    requires few { ports < 256 }
     requires below { first ≤ ports }
     requires words { items_in rows.old.rows (place_of at) ≡ ports_filled ports first }
     ensures { rows.new.rows ≡ with_items (place_of at) (cell_items (blank_cell ports)) rows.old.rows }
@@ -95,8 +94,8 @@ fn fill_from(rows: &mut Store, at: *mut u8, ports: usize, first: usize)
 // No port leads anywhere. Most cells have at most three, and those are written without a loop.
 fn fill_ports(rows: &mut Store, at: *mut u8, ports: usize)
     requires start { IsStart at }
-    requires few { ports < 2 ^ 16 }
-    requires words { items_in rows.old.rows (place_of at) ≡ blank_links 7 ++ (blank_numbers ++ replicate (ports * 3) blank) }
+    requires few { ports < 256 }
+    requires words { items_in rows.old.rows (place_of at) ≡ blank_links 7 ++ (blank_numbers ++ replicate (ports * 2) blank) }
     ensures { rows.new.rows ≡ with_items (place_of at) (cell_items (blank_cell ports)) rows.old.rows }
 {
     if ports == 0 {
@@ -117,8 +116,8 @@ fn fill_ports(rows: &mut Store, at: *mut u8, ports: usize)
 /// A new row becomes the cell of an atom in which nothing is set.
 pub fn fill(rows: &mut Store, at: *mut u8, ports: usize)
     requires start { IsStart at }
-    requires few { ports < 2 ^ 16 }
-    requires words { items_in rows.old.rows (place_of at) ≡ replicate (12 + ports * 3) blank }
+    requires few { ports < 256 }
+    requires words { items_in rows.old.rows (place_of at) ≡ replicate (12 + ports * 2) blank }
     ensures { rows.new.rows ≡ with_items (place_of at) (cell_items (blank_cell ports)) rows.old.rows }
 {
     fill_links(rows, at, NUMBER_WORDS + ports * PORT_WORDS);
@@ -129,12 +128,11 @@ pub fn fill(rows: &mut Store, at: *mut u8, ports: usize)
 // The port of a membrane leads nowhere, the numbers behind it are 0, and its last link leads nowhere.
 fn fill_end(rows: &mut Store, at: *mut u8)
     requires start { IsStart at }
-    requires words { items_in rows.old.rows (place_of at) ≡ blank_links 7 ++ (blank_numbers ++ replicate 6 blank) }
+    requires words { items_in rows.old.rows (place_of at) ≡ blank_links 7 ++ (blank_numbers ++ replicate 5 blank) }
     ensures { rows.new.rows ≡ with_items (place_of at) (cell_items blank_membrane) rows.old.rows }
 {
     rows.set_link(at, FIRST_PORT, nowhere());
     rows.set_number(at, FIRST_PORT + 1, 0);
-    rows.set_number(at, FIRST_PORT + 2, 0);
     rows.set_number(at, FIRST_PORT + PORT_WORDS, 0);
     rows.set_number(at, FIRST_PORT + PORT_WORDS + 1, 0);
     rows.set_link(at, LAST_LINK_WORD, nowhere());
@@ -143,7 +141,7 @@ fn fill_end(rows: &mut Store, at: *mut u8)
 /// A new row becomes the cell of a membrane in which nothing is set.
 pub fn fill_membrane(rows: &mut Store, at: *mut u8)
     requires start { IsStart at }
-    requires words { items_in rows.old.rows (place_of at) ≡ replicate 18 blank }
+    requires words { items_in rows.old.rows (place_of at) ≡ replicate 17 blank }
     ensures { rows.new.rows ≡ with_items (place_of at) (cell_items blank_membrane) rows.old.rows }
 {
     fill_links(rows, at, NUMBER_WORDS + PORT_WORDS + 3);

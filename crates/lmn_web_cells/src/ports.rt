@@ -21,7 +21,8 @@ pub fn partner(cells: &Cells, c: Cell, i: usize) -> Option<(Cell, u64)>
 
 /// A port has this partner, or none.
 fn set_partner(cells: &mut Cells, c: Cell, i: usize, partner: Option<(Cell, u64)>)
-    requires { IsPort (cells_by cells.old) (cell_id c) i }
+    requires port { IsPort (cells_by cells.old) (cell_id c) i }
+    requires small { IfSome partner (λ p. p.1 < 256) }
     ensures { cells_by cells.new ≡ linked (cells_by cells.old) (cell_id c) i (option_map port_id partner) }
 {
     match partner {
@@ -54,6 +55,7 @@ pub fn join(cells: &mut Cells, a: Cell, i: usize, b: Cell, j: usize)
     ensures reaches { Reaches (cells_by cells.new) }
     ensures paired { Paired (cells_by cells.old) → Paired (cells_by cells.new) }
 {
+    cells.few_ports();
     let first = partner(cells, a, i);
     let second = partner(cells, b, j);
     clear(cells, first);

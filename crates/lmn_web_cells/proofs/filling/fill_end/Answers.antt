@@ -1,7 +1,7 @@
 use Rattle.std.proofs.Common.{◌∙◌, None, set, ap, arith}
 use Rattle.lmn_web_cells.specs.Rows.{items_in, with_items, link, number, place_of}
 use Rattle.lmn_web_cells.specs.Cells.{link_to}
-use Rattle.lmn_web_cells.proofs.FillLemmas.{and_written, end_begun, end_there, some_end, end_none, end_one, end_two, end_three, end_four, end_five}
+use Rattle.lmn_web_cells.proofs.FillLemmas.{and_written, end_begun, end_there, some_end, end_none, end_one, end_two, end_three, end_four}
 use Rattle.lmn_web_cells.proofs.filling.fill_end.Goals as goal
 
 pub set_link-requires : goal.set_link-requires
@@ -30,15 +30,6 @@ set_number-requires-3 c =
     let three = and_written old c.set_number.new.self.rows c.set_number-2.new.self.rows b 14 end_two (number 0) there two c.set_number-2.ensures in
     (c.requires.start, omega arith, end_there old c.set_number-2.new.self.rows b 15 end_three there three (omega arith))
 
-pub set_number-requires-4 : goal.set_number-requires-4
-set_number-requires-4 c =
-    let old = c.args.rows.now.rows in let b = place_of c.args.at in let there = some_end old b c.requires.words in
-    let one = and_written old old c.set_link.new.self.rows b 12 end_none (link_to None) there (end_begun old b c.requires.words) (c.set_link.ensures ∙ ap (λ q. with_items b (set (items_in old b) 12 (link q)) old) c.nowhere.ensures) in
-    let two = and_written old c.set_link.new.self.rows c.set_number.new.self.rows b 13 end_one (number 0) there one c.set_number.ensures in
-    let three = and_written old c.set_number.new.self.rows c.set_number-2.new.self.rows b 14 end_two (number 0) there two c.set_number-2.ensures in
-    let four = and_written old c.set_number-2.new.self.rows c.set_number-3.new.self.rows b 15 end_three (number 0) there three c.set_number-3.ensures in
-    (c.requires.start, omega arith, end_there old c.set_number-3.new.self.rows b 16 end_four there four (omega arith))
-
 pub set_link-requires-2 : goal.set_link-requires-2
 set_link-requires-2 c =
     let old = c.args.rows.now.rows in let b = place_of c.args.at in let there = some_end old b c.requires.words in
@@ -46,8 +37,7 @@ set_link-requires-2 c =
     let two = and_written old c.set_link.new.self.rows c.set_number.new.self.rows b 13 end_one (number 0) there one c.set_number.ensures in
     let three = and_written old c.set_number.new.self.rows c.set_number-2.new.self.rows b 14 end_two (number 0) there two c.set_number-2.ensures in
     let four = and_written old c.set_number-2.new.self.rows c.set_number-3.new.self.rows b 15 end_three (number 0) there three c.set_number-3.ensures in
-    let five = and_written old c.set_number-3.new.self.rows c.set_number-4.new.self.rows b 16 end_four (number 0) there four c.set_number-4.ensures in
-    (c.requires.start, omega arith, end_there old c.set_number-4.new.self.rows b 17 end_five there five (omega arith))
+    (c.requires.start, omega arith, end_there old c.set_number-3.new.self.rows b 16 end_four there four (omega arith))
 
 pub returns : goal.returns
 returns c =
@@ -56,6 +46,5 @@ returns c =
     let two = and_written old c.set_link.new.self.rows c.set_number.new.self.rows b 13 end_one (number 0) there one c.set_number.ensures in
     let three = and_written old c.set_number.new.self.rows c.set_number-2.new.self.rows b 14 end_two (number 0) there two c.set_number-2.ensures in
     let four = and_written old c.set_number-2.new.self.rows c.set_number-3.new.self.rows b 15 end_three (number 0) there three c.set_number-3.ensures in
-    let five = and_written old c.set_number-3.new.self.rows c.set_number-4.new.self.rows b 16 end_four (number 0) there four c.set_number-4.ensures in
-    and_written old c.set_number-4.new.self.rows c.set_link-2.new.self.rows b 17 end_five (link_to None) there five
-    (c.set_link-2.ensures ∙ ap (λ q. with_items b (set (items_in c.set_number-4.new.self.rows b) 17 (link q)) c.set_number-4.new.self.rows) c.nowhere-2.ensures)
+    and_written old c.set_number-3.new.self.rows c.set_link-2.new.self.rows b 16 end_four (link_to None) there four
+    (c.set_link-2.ensures ∙ ap (λ q. with_items b (set (items_in c.set_number-3.new.self.rows b) 16 (link q)) c.set_number-3.new.self.rows) c.nowhere-2.ensures)

@@ -13,19 +13,25 @@ clear-requires-2 c =
     all_ports old (cells_by c.clear.new.cells) port_id c.partner-second.result (λ k j l. cleared_after (cells_by c.clear.new.cells) old first k j c.clear.ensures l)
     (partner_port old (cell_id c.args.b) c.args.j port_id c.partner-second.result c.requires.reaches c.partner-second.ensures)
 
-pub set_partner-requires : goal.set_partner-requires
-set_partner-requires c =
+pub set_partner-requires-clause-port : goal.set_partner-requires-clause-port
+set_partner-requires-clause-port c =
     let old = cells_by c.args.cells.now in let one = cells_by c.clear.new.cells in let two = cells_by c.clear-2.new.cells in
     let first = option_map port_id c.partner-first.result in let second = option_map port_id c.partner-second.result in
     let a = cell_id c.args.a in let i = c.args.i in
     cleared_after two one second a i c.clear-2.ensures (cleared_after one old first a i c.clear.ensures c.requires.a)
 
-pub set_partner-requires-2 : goal.set_partner-requires-2
-set_partner-requires-2 c =
+pub set_partner-requires-2-clause-port : goal.set_partner-requires-2-clause-port
+set_partner-requires-2-clause-port c =
     let old = cells_by c.args.cells.now in let one = cells_by c.clear.new.cells in let two = cells_by c.clear-2.new.cells in let three = cells_by c.set_partner.new.cells in
     let first = option_map port_id c.partner-first.result in let second = option_map port_id c.partner-second.result in
     let b = cell_id c.args.b in let j = c.args.j in
     linked_after three two (cell_id c.args.a) c.args.i (Some (b, j)) b j c.set_partner.ensures (cleared_after two one second b j c.clear-2.ensures (cleared_after one old first b j c.clear.ensures c.requires.b))
+
+pub set_partner-requires-clause-small : goal.set_partner-requires-clause-small
+set_partner-requires-clause-small c = c.few_ports.ensures (cell_id c.args.b) c.args.j c.requires.b
+
+pub set_partner-requires-2-clause-small : goal.set_partner-requires-2-clause-small
+set_partner-requires-2-clause-small c = c.few_ports.ensures (cell_id c.args.a) c.args.i c.requires.a
 
 pub returns-clause-joined : goal.returns-clause-joined
 returns-clause-joined c = join_is _ _ _ _ _ (cell_id c.args.a) c.args.i (cell_id c.args.b) c.args.j (_, _) c.partner-first.ensures c.partner-second.ensures c.clear.ensures c.clear-2.ensures c.set_partner.ensures c.set_partner-2.ensures

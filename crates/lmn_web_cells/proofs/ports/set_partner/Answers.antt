@@ -9,12 +9,12 @@ use Rattle.lmn_web_cells.proofs.ports.set_partner.Goals as goal
 
 pub set_port-requires-clause-below : goal.set_port-requires-clause-below
 set_port-requires-clause-below c =
-    to_after (cells_by c.set_to-in-Some.new.self) (cells_by c.args.cells.now) (cell_id c.args.c) c.args.i (Some (cell_id c.in-Some.d)) (cell_id c.args.c) c.args.i c.set_to-in-Some.ensures c.requires
+    to_after (cells_by c.set_to-in-Some.new.self) (cells_by c.args.cells.now) (cell_id c.args.c) c.args.i (Some (cell_id c.in-Some.d)) (cell_id c.args.c) c.args.i c.set_to-in-Some.ensures c.requires.port
 
 pub set_port-requires-clause-there : goal.set_port-requires-clause-there
 set_port-requires-clause-there c =
     port_there (cells_by c.set_to-in-Some.new.self) (cell_id c.args.c) c.args.i
-    (to_after (cells_by c.set_to-in-Some.new.self) (cells_by c.args.cells.now) (cell_id c.args.c) c.args.i (Some (cell_id c.in-Some.d)) (cell_id c.args.c) c.args.i c.set_to-in-Some.ensures c.requires)
+    (to_after (cells_by c.set_to-in-Some.new.self) (cells_by c.args.cells.now) (cell_id c.args.c) c.args.i (Some (cell_id c.in-Some.d)) (cell_id c.args.c) c.args.i c.set_to-in-Some.ensures c.requires.port)
 
 pub returns-in-None : goal.returns-in-None
 returns-in-None c = c.set_to.ensures ∙ ap (λ p. linked (cells_by c.args.cells.now) (cell_id c.args.c) c.args.i (option_map port_id p)) (sym c.in-None.is)

@@ -7,8 +7,8 @@ use Rattle.lmn_web_cells.proofs.PortLemmas.{cleared_after}
 use Rattle.lmn_web_cells.proofs.Pairing.{parted_paired, parted_reaches}
 use Rattle.lmn_web_cells.proofs.ports.split.Goals as goal
 
-pub set_partner-requires : goal.set_partner-requires
-set_partner-requires c =
+pub set_partner-requires-clause-port : goal.set_partner-requires-clause-port
+set_partner-requires-clause-port c =
     cleared_after (cells_by c.clear.new.cells) (cells_by c.args.cells.now) (option_map port_id c.partner-other.result) (cell_id c.args.c) c.args.i c.clear.ensures c.requires.port
 
 pub returns-clause-parted : goal.returns-clause-parted

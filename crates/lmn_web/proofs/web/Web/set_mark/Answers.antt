@@ -11,6 +11,9 @@ use Rattle.lmn_web.proofs.WebLemmas.{told_mark, told_own, port_mark_keeps, own_m
 use Rattle.lmn_web.proofs.Filing.{same_classed}
 use Rattle.lmn_web.proofs.web.Web.set_mark.Goals as goal
 
+pub set_mark-requires-clause-small : goal.set_mark-requires-clause-small
+set_mark-requires-clause-small c = c.requires.small c.if-slot-eq0.false
+
 pub invariant_of-self : goal.invariant_of-self
 invariant_of-self c =
     let f = cells_by c.self.inside.cells in let a = cell_id c.args.c in
