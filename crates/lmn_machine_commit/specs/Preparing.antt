@@ -120,11 +120,17 @@ abbrev pub CopiesNone : Instr → Type 0
 CopiesNone (CopyGround x y z) = ⊥
 CopiesNone _ = Unit {0}
 
--- The instruction before a place of code copies the part in this register.
-abbrev pub CopiesBefore : List Instr → (at part : ℕ) → Type 0
-CopiesBefore code at part = (k x y : ℕ) × (at ≡ k + 1) × (slice_get code k ≡ Some (CopyGround x y part))
+-- An instruction makes an atom, and nothing else.
+abbrev pub MakesAtom : Instr → Type 0
+MakesAtom (NewAtom a m f) = Unit {0}
+MakesAtom (NewInt a m v) = Unit {0}
+MakesAtom _ = ⊥
 
--- Where the instruction before a place of code copies a part, these are the atoms of that, as a walk finds them.
+-- An instruction before a place of code copies the part in this register, and behind it up to there atoms alone are made.
+abbrev pub CopiesBefore : List Instr → (at part : ℕ) → Type 0
+CopiesBefore code at part = (k x y : ℕ) × (k < at) × (slice_get code k ≡ Some (CopyGround x y part)) × ((j : ℕ) (i : Instr) → k < j → j < at → slice_get code j ≡ Some i → MakesAtom i)
+
+-- Where a part is copied so before a place of code, these are its atoms, as a walk finds them.
 abbrev pub ListsCopied : {A : Type 0} → (A → ℕ) → Heap → List (A × ℕ) → List Instr → ℕ → List A → Type 0
 ListsCopied {A} atom s parts code at trail = (part : ℕ) (p : A × ℕ) → CopiesBefore code at part → slice_get parts part ≡ Some p → IsPartInDepth s (port_id atom p) (map atom trail)
 

@@ -6,7 +6,7 @@ ghost use Rattle.lmn_ground_parts.specs.Walks.{IsPartInDepth};
 ghost use Rattle.lmn_solid_bodies.specs.Running.{Registers};
 ghost use Rattle.lmn_solid_bodies.specs.Stopping.{SameButSpares};
 ghost use Rattle.lmn_machine_commit.specs.Registers.{AgreesWithCopies, AreHeld};
-ghost use Rattle.lmn_machine_commit.specs.Preparing.{AddsSo, AllUse, AreAtHome, AtomIsMade, CanBeCopied, CanCopy, CanCopyRest, CanPrepare, CopiesBefore, CopiesNone, CopyIsMade, HasClosedRest, RestIsMade, MembraneIsMade, OnlyMakes, IsCounted, IsMade, KeepsCount, ListsCopied, Prepared, UsesInOrder, Uses, needed, needed_by};
+ghost use Rattle.lmn_machine_commit.specs.Preparing.{AddsSo, AllUse, AreAtHome, AtomIsMade, CanBeCopied, CanCopy, CanCopyRest, CanPrepare, CopiesBefore, CopiesNone, CopyIsMade, HasClosedRest, RestIsMade, MakesAtom, MembraneIsMade, OnlyMakes, IsCounted, IsMade, KeepsCount, ListsCopied, Prepared, UsesInOrder, Uses, needed, needed_by};
 ghost use Rattle.lmn_machine_registers.specs.declared.stack.TheConstants.{ROOM};
 ghost use Rattle.lmn_instr_code.specs.declared.instr.Instr.{Instr};
 
@@ -51,18 +51,21 @@ fn make_membrane<S: LinkStore>(
     Ok(())
 }
 
-/// Whether the instruction before a place of code copies the part in a register.
+/// Whether an instruction before a place of code copies the part in a register, and behind it up to there atoms alone are made.
 fn copies_before(code: &Body<'_>, at: usize, part: u16) -> bool
     requires { at ≤ length code.now }
     ensures { IsTrue result → CopiesBefore code.now at part }
 {
-    if at == 0 {
-        return false;
+    let mut place = at;
+    while place > 0 {
+        match code.at(place - 1) {
+            Instr::CopyGround { part: before, .. } => return *before == part,
+            Instr::NewAtom { .. } => place -= 1,
+            Instr::NewInt { .. } => place -= 1,
+            _ => return false,
+        }
     }
-    match code.at(at - 1) {
-        Instr::CopyGround { part: before, .. } => *before == part,
-        _ => false,
-    }
+    false
 }
 
 /// Copies a part; the root of the copy and the number of its atoms go into the next register. `trail` has the atoms of the part then;
@@ -275,6 +278,7 @@ fn make<S: LinkStore>(
     requires homes { AreAtHome S.atom_id (S.heap store.old) set.old.parts }
     requires rest { CanCopyRest S.atom_id S.mem_id (S.heap store.old) set.old instr.now }
     ensures ok { (before : List Instr) → OnOk result (IsMade S.atom_id S.mem_id (S.heap store.old) (S.heap store.new) set.old set.new before instr.now) }
+    ensures trail { MakesAtom instr.now → trail.new ≡ trail.old }
     ensures makes { OnlyMakes (S.heap store.old) (S.heap store.new) }
 {
     match instr {
@@ -353,6 +357,7 @@ fn make_next<S: LinkStore>(
             Ok(counted)
         }
         _ => {
+            let _root = store.root();
             make(alloc, store, instr, set, trail)?;
             Ok(counted)
         }

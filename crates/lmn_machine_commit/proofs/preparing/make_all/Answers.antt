@@ -38,7 +38,7 @@ loop-i-init g c =
       order = begun.1;
       within = c.first_made-first.ensures.within;
       counted = λ r m u e. sym (none_needed r (rules_in h) c.args.code.now c.first_made-first.result (g.S.LinkStore.mem_id m) c.first_made-first.ensures.none);
-      listed = λ part p b get. absurd (c.first_made-first.ensures.none b.0 _ (let e = b.3 in omega (arith, e)) b.4 tt);
+      listed = λ part p b get. absurd (c.first_made-first.ensures.none b.0 _ b.3 b.4 tt);
     }
 
 pub make_next-requires-clause-at : goal.make_next-requires-clause-at

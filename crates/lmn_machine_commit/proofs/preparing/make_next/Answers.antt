@@ -2,10 +2,10 @@ use Rattle.std.proofs.Common.{◌≡◌, ◌+◌, take, Some, length, refl, sym,
 use Rattle.std.proofs.lemmas.Option.{slice_get_within}
 use Rattle.std.proofs.lemmas.Result.{on_ok_weaker}
 use Rattle.std.specs.Prelude.{slice_get}
-use Rattle.lmn_machine_commit.specs.Preparing.{AddsSo, CopiesNone, KeepsCount}
+use Rattle.lmn_machine_commit.specs.Preparing.{AddsSo, CopiesNone, KeepsCount, MakesAtom}
 use Rattle.lmn_machine_commit.proofs.Codes.{take_get}
 use Rattle.lmn_machine_commit.proofs.Counting.{counted_kept, counted_new, keeps_count}
-use Rattle.lmn_machine_commit.proofs.Listing.{copies_none, lists_copy, lists_none}
+use Rattle.lmn_machine_commit.proofs.Listing.{copies_none, lists_copy, lists_none, lists_on}
 use Rattle.lmn_machine_commit.proofs.Making.{copy_made, new_mem_made}
 use Rattle.lmn_machine_commit.proofs.preparing.make_next.Goals as goal
 
@@ -62,19 +62,21 @@ make-requires-clause-copies g c = copies_none c.args.instr.now c.in_default.not-
 
 pub returns-in-LoadRule-clause-listed : goal.returns-in-LoadRule-clause-listed
 returns-in-LoadRule-clause-listed g c = on_ok_weaker c.make_room.result
-    (λ made. lists_none g.S.LinkStore.atom_id (g.S.LinkStore.heap c.make_room.new.store) c.args.set.now.parts c.args.code.now c.args.at c.args.trail.now c.args.instr.now c.requires.at (subst CopiesNone (sym c.in-LoadRule.is) tt)) c.make_room.ensures.ok
+    (λ made. lists_none g.S.LinkStore.atom_id (g.S.LinkStore.heap c.make_room.new.store) c.args.set.now.parts c.args.code.now c.args.at c.args.trail.now c.args.instr.now c.requires.at (subst CopiesNone (sym c.in-LoadRule.is) tt) (λ m. subst MakesAtom c.in-LoadRule.is m)) c.make_room.ensures.ok
 
 pub returns-in-CopyRules-clause-listed : goal.returns-in-CopyRules-clause-listed
 returns-in-CopyRules-clause-listed g c = on_ok_weaker c.make_room-in-CopyRules.result
-    (λ made. lists_none g.S.LinkStore.atom_id (g.S.LinkStore.heap c.make_room-in-CopyRules.new.store) c.args.set.now.parts c.args.code.now c.args.at c.args.trail.now c.args.instr.now c.requires.at (subst CopiesNone (sym c.in-CopyRules.is) tt)) c.make_room-in-CopyRules.ensures.ok
+    (λ made. lists_none g.S.LinkStore.atom_id (g.S.LinkStore.heap c.make_room-in-CopyRules.new.store) c.args.set.now.parts c.args.code.now c.args.at c.args.trail.now c.args.instr.now c.requires.at (subst CopiesNone (sym c.in-CopyRules.is) tt) (λ m. subst MakesAtom c.in-CopyRules.is m)) c.make_room-in-CopyRules.ensures.ok
 
 pub returns-in_ok-make_membrane-in-NewMem-clause-listed : goal.returns-in_ok-make_membrane-in-NewMem-clause-listed
 returns-in_ok-make_membrane-in-NewMem-clause-listed g c =
-    lists_none g.S.LinkStore.atom_id (g.S.LinkStore.heap c.make_membrane.new.store) c.make_membrane.new.set.parts c.args.code.now c.args.at c.args.trail.now c.args.instr.now c.requires.at (subst CopiesNone (sym c.in-NewMem.is) tt)
+    lists_none g.S.LinkStore.atom_id (g.S.LinkStore.heap c.make_membrane.new.store) c.make_membrane.new.set.parts c.args.code.now c.args.at c.args.trail.now c.args.instr.now c.requires.at (subst CopiesNone (sym c.in-NewMem.is) tt) (λ m. subst MakesAtom c.in-NewMem.is m)
 
 pub returns-in_ok-make-in_default-clause-listed : goal.returns-in_ok-make-in_default-clause-listed
 returns-in_ok-make-in_default-clause-listed g c =
-    lists_none g.S.LinkStore.atom_id (g.S.LinkStore.heap c.make.new.store) c.make.new.set.parts c.args.code.now c.args.at c.make.new.trail c.args.instr.now c.requires.at (copies_none c.args.instr.now c.in_default.not-CopyGround)
+    lists_on g.S.LinkStore.atom_id (g.S.LinkStore.heap c.make.new.store) c.make.new.set.parts c.args.code.now c.args.at c.make.new.trail c.args.instr.now c.requires.at
+    (g.S.LinkStore.heap c.args.store.now) c.args.set.now.parts c.args.trail.now (copies_none c.args.instr.now c.in_default.not-CopyGround) c.make.ensures.trail (c.in_ok-make-in_default.ensures.ok (take c.args.at c.args.code.now)).grows.parts
+    c.root-root.ensures.sound c.make.ensures.makes c.requires.parts c.requires.listed
 
 pub make-requires-clause-keeps : goal.make-requires-clause-keeps
 make-requires-clause-keeps g c = keeps_count c.args.instr.now c.in_default.not-NewMem c.in_default.not-LoadRule c.in_default.not-CopyRules
