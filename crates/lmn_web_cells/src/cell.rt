@@ -248,7 +248,7 @@ impl Cells {
     {
         let mark = self.rows.number(c.at, number_word(j)) / PORTS;
         self.rows
-            .set_number(c.at, number_word(j), port_and_mark(n, mark));
+            .set_number(c.at, number_word(j), port_and_mark(n as u8, mark));
     }
 
     /// The mark of a port.
@@ -267,7 +267,7 @@ impl Cells {
         requires small { n < 2 ^ 56 }
         ensures { cells_by self.new ≡ alter (cells_by self.old) (cell_id c) (option_map (with_mark j n)) }
     {
-        let port = self.rows.number(c.at, number_word(j)) % PORTS;
+        let port = (self.rows.number(c.at, number_word(j)) % PORTS) as u8;
         self.rows
             .set_number(c.at, number_word(j), port_and_mark(port, n));
     }
@@ -284,12 +284,11 @@ fn number_word(j: usize) -> usize
 
 // The number of a port and a mark, as one number.
 #[inline(always)]
-fn port_and_mark(port: u64, mark: u64) -> u64
-    requires port { port < 256 }
-    requires mark { mark < 2 ^ 56 }
+fn port_and_mark(port: u8, mark: u64) -> u64
+    requires { mark < 2 ^ 56 }
     ensures { result ≡ mark * 256 + port }
 {
-    mark * PORTS + port
+    mark * PORTS + port as u64
 }
 
 /// The pointer to a cell, or to nowhere.
