@@ -1,4 +1,4 @@
-use Rattle.std.proofs.Common.{map}
+use Rattle.std.proofs.Common.{arith, map}
 use Rattle.lmn_machine.proofs.Resting.{first_marked, first_full, first_parts, asked_mem, asked_out, asked_rest, asked_clean, asked_closed, again_marked, again_full, again_parts, told_again, last_held, last_same}
 use Rattle.lmn_machine.proofs.rests.is_closed.Goals as goal
 
@@ -33,7 +33,7 @@ pub paint_parts-requires-2-clause-parts : goal.paint_parts-requires-2-clause-par
 paint_parts-requires-2-clause-parts g c = again_parts g.S.LinkStore.atom_id g.S.LinkStore.mem_id (g.S.LinkStore.heap c.args.store.now) c.requires.valid c.requires.unmarked c.args.set.now c.requires.held (g.S.LinkStore.heap c.mark_all.new.store) c.mark_all.ensures (g.S.LinkStore.heap c.paint_parts.new.store) c.paint_parts.ensures.0 c.paint_parts.ensures.2 (g.S.LinkStore.heap c.closed-stays.new.store) c.closed-stays.ensures.same
 
 pub mark_all-requires-2 : goal.mark_all-requires-2
-mark_all-requires-2 g c = record { held = last_held g.S.LinkStore.atom_id g.S.LinkStore.mem_id (g.S.LinkStore.heap c.args.store.now) c.requires.valid c.requires.unmarked c.args.set.now c.requires.held (g.S.LinkStore.heap c.mark_all.new.store) c.mark_all.ensures (g.S.LinkStore.heap c.paint_parts.new.store) c.paint_parts.ensures.0 c.paint_parts.ensures.2 (g.S.LinkStore.heap c.closed-stays.new.store) c.closed-stays.ensures.same (g.S.LinkStore.heap c.paint_parts-2.new.store) c.paint_parts-2.ensures.0 c.paint_parts-2.ensures.2 }
+mark_all-requires-2 g c = record { small = omega arith; held = last_held g.S.LinkStore.atom_id g.S.LinkStore.mem_id (g.S.LinkStore.heap c.args.store.now) c.requires.valid c.requires.unmarked c.args.set.now c.requires.held (g.S.LinkStore.heap c.mark_all.new.store) c.mark_all.ensures (g.S.LinkStore.heap c.paint_parts.new.store) c.paint_parts.ensures.0 c.paint_parts.ensures.2 (g.S.LinkStore.heap c.closed-stays.new.store) c.closed-stays.ensures.same (g.S.LinkStore.heap c.paint_parts-2.new.store) c.paint_parts-2.ensures.0 c.paint_parts-2.ensures.2 }
 
 pub returns-clause-same : goal.returns-clause-same
 returns-clause-same g c = last_same g.S.LinkStore.atom_id g.S.LinkStore.mem_id (g.S.LinkStore.heap c.args.store.now) c.requires.valid c.requires.unmarked c.args.set.now c.requires.held (g.S.LinkStore.heap c.mark_all.new.store) c.mark_all.ensures (g.S.LinkStore.heap c.paint_parts.new.store) c.paint_parts.ensures.0 c.paint_parts.ensures.2 (g.S.LinkStore.heap c.closed-stays.new.store) c.closed-stays.ensures.same (g.S.LinkStore.heap c.paint_parts-2.new.store) c.paint_parts-2.ensures.0 c.paint_parts-2.ensures.2

@@ -1,4 +1,4 @@
-use Rattle.std.proofs.Common.{map, ◌∙◌, ap, subst, sym}
+use Rattle.std.proofs.Common.{map, ◌∙◌, ap, arith, subst, sym}
 use Rattle.lmn_store_heap.specs.Heap.{IsAtom}
 use Rattle.lmn_ground.specs.Rests.{own_marked}
 use Rattle.lmn_machine.proofs.Owning.{ground_whole, whole_ground, taken_back_own, there_own, mem_own, port_own, clean_own_all}
@@ -19,6 +19,7 @@ is_ground-whole-requires-clause-clean g c = clean_own_all (g.S.LinkStore.heap c.
 pub mark_all-requires-2 : goal.mark_all-requires-2
 mark_all-requires-2 g c = record {
   held = λ k b e. subst (λ s. IsAtom s (g.S.LinkStore.atom_id b)) (sym c.is_ground-whole.ensures.same) (there_own (g.S.LinkStore.heap c.args.store.now) (g.S.LinkStore.heap c.mark_all.new.store) (map g.S.LinkStore.atom_id c.args.atoms.now) 1 (g.S.LinkStore.atom_id b) c.requires.unmarked c.mark_all.ensures (c.requires.held k b e));
+  small = omega arith;
 }
 
 pub returns-clause-whole : goal.returns-clause-whole
