@@ -235,7 +235,7 @@ FIRED = [
     Shape('a condition on the first of two atoms', 2000, lambda n: each('p({})', n) + 'p($x),p($y):-$x<0,int($y)|.'),
     Shape('a condition on the first of three atoms', 2000, lambda n: each('p({})', n) + 'p($x),p($y),p($z):-$x<0,int($y),int($z)|.'),
     Shape('a closed rest before a condition', 500, lambda n: '{%s}. {x($n),$p[]}:-$n<0|.' % items('x({})', n)),
-    Shape('a ground part before a condition', 500, lambda n: each('p({})', n) + listed(n).replace('l(', 'g(') + 'p($x),g($l):-$x<0,ground($l)|.'),
+    Shape('a ground part before a condition', 2100, lambda n: each('p({})', n) + listed(n).replace('l(', 'g(') + 'p($x),g($l):-$x<0,ground($l)|.'),
 ]
 
 ASKED = [
