@@ -1,5 +1,5 @@
 -- What an operation on two 64-bit integers gives, from what the kit's calls answer.
-use Rattle.std.proofs.Common.{◌≡◌, refl, sym, ◌∙◌, ap, Bool, true, false, ℕ, zero, suc, ℤ, pos, negsuc, ◌+ℤ◌, ◌-ℤ◌, ◌*ℤ◌, Option, Some, None, ◌<◌, ◌≤◌, subst, arith}
+use Rattle.std.proofs.Common.{◌≡◌, refl, sym, ◌∙◌, ap, Bool, true, false, zero, suc, ℤ, pos, negsuc, ◌+ℤ◌, ◌-ℤ◌, ◌*ℤ◌, Option, Some, None, ◌<◌, ◌≤◌, subst, arith}
 use Rattle.std.specs.Prelude.{SomeIff, FitsSigned, int_div, int_rem, neg_ℤ, if◌then◌else◌, ◌^◌, ◌-◌, ◌%◌}
 use Rattle.std.specs.Int.{w64, cast_signed, cast_unsigned, CanDivide, IsNonZero}
 use Rattle.std.specs.Int.Signed.{mag, mag_rem}

@@ -1,6 +1,6 @@
 -- Examples of windows and readings.
 use Rattle.std.specs.Prelude.{◌≡◌, ◌⊎◌, ℕ, List, [], ◌∷◌, ◌++◌, length}
-use Rattle.std.proofs.Common.{ap, arith, inl, inr, refl, sym, suc, zero, ◌+◌, ◌∙◌}
+use Rattle.std.proofs.Common.{ap, arith, inl, inr, refl, ◌+◌, ◌∙◌}
 use Rattle.lmn_receipt_reading.specs.Windows.{HasLine, IsWindow}
 use Rattle.lmn_receipt_reading.specs.Readings.{IsRest}
 use Rattle.lmn_receipt_reading.specs.Examples.{AllIsReady, ByteIsBehind, CutIsWindow, NameIsKept, NothingIsLost, line_and_byte, reading}

@@ -1,6 +1,6 @@
 use Rattle.std.proofs.Common.{◌≡◌, ◌<◌, ◌∙◌, ◌+◌, ◌-◌, ◌++◌, ap, refl, subst}
 use Rattle.lmn_receipt_reading.specs.Seen.{seen}
-use Rattle.lmn_receipt_reading.proofs.ReadingLemmas.{ReadsBlock, reads_block}
+use Rattle.lmn_receipt_reading.proofs.ReadingLemmas.{reads_block}
 use Rattle.lmn_receipt_reading.proofs.shelf_lines.ShelfLines.read_block.Goals as goal
 
 pub returns-clause-on : goal.returns-clause-on
