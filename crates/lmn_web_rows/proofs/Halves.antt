@@ -1,15 +1,15 @@
 -- One half of a word of the rows is taken out and put back. Assumes `Logic`.
-use Rattle.std.proofs.Common.{◌≡◌, ℕ, zero, suc, ◌+◌, ◌*◌, ◌<◌, List, [], ◌∷◌, length, get_or, set, replicate, Option, Some, None, refl, sym, subst, ap, ◌∙◌, arith, length-set}
+use Rattle.std.proofs.Common.{◌≡◌, ℕ, zero, suc, ◌+◌, ◌*◌, ◌<◌, List, [], ◌∷◌, length, get_or, set, replicate, Option, Some, None, refl, sym, subst, ◌∙◌, arith, length-set}
 use seplogic.Ra.Ura.{Ura}
 use base.Fraction.{full_share}
 use base.Logic.{SProp, ent, sep, wand, all, all_e, apply∗, fst∗, snd∗, via, id⊢}
 use base.Fml.{Lft, froom}
 use types.Logic.{Logic, sem}
-use types.Kit.{‵, raw, ◌⊛◌, ◌$◌, ◌∵◌, !, qed, move, use1, use2, split, frame, each, assume, rewrite, fsplit, fjoin, done}
+use types.Kit.{‵, raw, ◌⊛◌, ◌$◌, ◌∵◌, !, qed, move, use1, use2, split, frame, each, assume, rewrite, done}
 use denote.Builtin.{u32}
 use denote.Memory.{part_at}
 use Rattle.lmn_web_rows.specs.Rows.{Item, blank, Row, block_at, byte_at, items_in, with_items, halves_in, of_halves, with_half}
-use Rattle.lmn_web_rows.specs.Owned.{word, half, half_own, halves_own, whole_word, item_own, rows_own, half_lent, halves_lent, item_lent, rows_lent}
+use Rattle.lmn_web_rows.specs.Owned.{half, half_own, halves_own, whole_word, item_own, rows_own, half_lent, halves_lent, item_lent, rows_lent}
 use Rattle.lmn_web_rows.proofs.Words.{word_at, word_seen, Again}
 use Rattle.lmn_web_rows.proofs.Writing.{item_halves, half_room}
 

@@ -1,17 +1,18 @@
 -- Rows of one block, cut apart and joined again. Assumes `Logic`.
-use Rattle.std.proofs.Common.{◌≡◌, ℕ, zero, suc, ◌+◌, ◌-◌, ◌*◌, ◌/◌, ◌%◌, ◌^◌, ◌<◌, ◌≤◌, ◌==◌, Bool, true, false, List, [], ◌∷◌, ◌++◌, length, take, drop, replicate, slice_get, Some, if◌then◌else◌, refl, sym, ap, subst, inl, inr, arith}
+use Rattle.std.proofs.Common.{◌≡◌, ℕ, zero, suc, ◌+◌, ◌-◌, ◌*◌, ◌/◌, ◌%◌, ◌^◌, ◌<◌, ◌≤◌, ◌==◌, Bool, true, false, List, [], ◌∷◌, ◌++◌, length, take, drop, replicate, get_or, set, slice_get, Some, if◌then◌else◌, refl, sym, ap, subst, inl, inr, arith}
 use Rattle.std.proofs.lemmas.Bool.{cases_eq, eq-eqb}
 use Rattle.std.proofs.lemmas.List.{length-append}
 use seplogic.Ra.Ura.{Ura}
-use base.Logic.{ent, sep, via, id⊢, mono_l, mono_r}
+use base.Logic.{ent, sep, via, id⊢, mono∗, mono_l, mono_r}
 use types.Logic.{Logic, sem}
 use types.Kit.{‵, ◌⊛◌, ◌$◌, ◌∵◌, !, qed, move, drop as dropped, use1, use2, split, frame, rewrite, fsplit, fjoin, done}
 use denote.Steps.{nothing}
 use base.Fml.{ftrue}
 use Rattle.lmn_base.proofs.Numbers.{not_equal}
-use Rattle.lmn_web_rows.specs.Rows.{Item, blank, Row, block_at, byte_at, items_in, with_items, with_use, cut_row, first_rows, later_rows, AreSideBySide}
+use Rattle.lmn_web_rows.specs.Rows.{Item, blank, Row, NUMBER_WORD, forgotten, block_at, byte_at, items_in, with_items, with_use, cut_row, first_rows, later_rows, AreSideBySide}
 use Rattle.lmn_web_rows.specs.Owned.{item_own, items_own, row_own, rows_own}
 use Rattle.lmn_web_rows.proofs.Blocks.{emptied, items_room}
+use Rattle.lmn_web_rows.proofs.Writing.{item_room}
 
 -- the words of some rows, one behind the other
 abbrev pub all_items : List Row → List Item
@@ -108,16 +109,22 @@ module _ {M : Type 1} {𝓤 : Ura M} (𝓛 : Logic 𝓤) where
           rewrite ! 1 (λ (m : ℕ). ‵ (items_own (drop c r.items) m (byte_at (n + c)))) (sym (same_block n c l)) refl $
           move ! (1 ∷ 2 ∷ []) $ fjoin ! $ move ! (1 ∷ 0 ∷ []) $ fjoin ! $ done !
 
-  -- nothing is known of the words of a row any more
-  pub forgets : (rs : List Row) (n : ℕ) → ent 𝓤 (sem 𝓛 (rows_own rs)) (sem 𝓛 (rows_own (with_items n (replicate (length (items_in rs n)) blank) rs)))
+  -- of all words but one nothing is known any more
+  items_forget : (is : List Item) (k b e : ℕ) → ent 𝓤 (sem 𝓛 (items_own is b e)) (sem 𝓛 (items_own (set (replicate (length is) blank) k (get_or is k blank)) b e))
+  items_forget [] k b e = id⊢ 𝓤 _
+  items_forget (i ∷ is) zero b e = mono_r 𝓤 (sem 𝓛 (item_own i b e)) (via 𝓤 _ (items_room 𝓛 is b (e + 8)) (emptied 𝓛 (length is) b (e + 8)))
+  items_forget (i ∷ is) (suc k) b e = mono∗ 𝓤 (item_room 𝓛 i b e) (items_forget is k b (e + 8))
+
+  -- nothing is known of the words of a row any more, but of the one with its number
+  pub forgets : (rs : List Row) (n : ℕ) → ent 𝓤 (sem 𝓛 (rows_own rs)) (sem 𝓛 (rows_own (with_items n (forgotten (items_in rs n)) rs)))
   forgets [] n = id⊢ 𝓤 _
   forgets (r ∷ rs) n = elim (cases_eq r.at n) [
-    | inl e ↦ subst Forgets (sym (eq-eqb r.at n e)) (mono_l 𝓤 (sem 𝓛 (rows_own rs)) (via 𝓤 _ (items_room 𝓛 r.items (block_at r.at) (byte_at r.at)) (emptied 𝓛 (length r.items) (block_at r.at) (byte_at r.at))))
+    | inl e ↦ subst Forgets (sym (eq-eqb r.at n e)) (mono_l 𝓤 (sem 𝓛 (rows_own rs)) (items_forget r.items NUMBER_WORD (block_at r.at) (byte_at r.at)))
     | inr d ↦ subst Forgets (sym (not_equal r.at n d)) (mono_r 𝓤 (sem 𝓛 (row_own r)) (forgets rs n))
   ]
     where
       Forgets : Bool → Type 1
-      Forgets t = let is = replicate (length (if t then r.items else items_in rs n)) blank in ent 𝓤 (sem 𝓛 (rows_own (r ∷ rs))) (sem 𝓛 (rows_own (if t then record r { items = is } ∷ rs else r ∷ with_items n is rs)))
+      Forgets t = let is = forgotten (if t then r.items else items_in rs n) in ent 𝓤 (sem 𝓛 (rows_own (r ∷ rs))) (sem 𝓛 (rows_own (if t then record r { items = is } ∷ rs else r ∷ with_items n is rs)))
 
   -- rows are the first ones and the others
   pub rows_split : (rs : List Row) (c : ℕ) → ent 𝓤 (sem 𝓛 (rows_own rs)) (sep 𝓤 (sem 𝓛 (rows_own (first_rows c rs))) (sem 𝓛 (rows_own (later_rows c rs))))

@@ -3,7 +3,7 @@ use Prim.Native.Nat.{ℕ, ◌+◌}
 use mathlib.Core.List.{List, [], ◌∷◌}
 use Rattle.std.specs.Prelude.{Option, Some, None, length}
 use seplogic.Ra.Ura.{Ura}
-use mir.Syntax.{w32, w64, ty_array}
+use mir.Syntax.{w32, w64}
 use base.Fml.{Lft}
 use contract.BorrowLft.{⊑_static}
 use types.Logic.{Logic}

@@ -3,3 +3,4 @@ pub mod Owned
 pub mod Tiles
 pub mod Seen
 pub mod Keeping
+pub mod Examples

@@ -42,6 +42,18 @@ half_at is j = slice_index_or (halves_in (slice_index_or is (j / 2) blank)) (j %
 abbrev pub with_half_at : ℕ → ℕ → List Item → List Item
 with_half_at j n is = slice_set is (j / 2) (with_half (j % 2) n (slice_index_or is (j / 2) blank))
 
+-- The number of a row stands in the first half of this word, which no call but the one that makes rows writes.
+abbrev pub NUMBER_WORD : ℕ
+NUMBER_WORD = 7
+
+-- a word with the number of a row, and beside it what its owner wrote
+abbrev pub numbered : ℕ → Option ℕ → Item
+numbered n x = of_halves (Some n ∷ x ∷ [])
+
+-- the words, of which nothing is known any more but the one with the number
+abbrev pub forgotten : List Item → List Item
+forgotten is = slice_set (replicate (length is) blank) NUMBER_WORD (slice_index_or is NUMBER_WORD blank)
+
 -- a row: the place of its first word, its words, and whether it is in use
 pub record Row : Type 0 where
   pub at : ℕ

@@ -1,7 +1,7 @@
 //! Rows of words, many of them side by side in one block. All that touches a pointer is here.
 ghost use Rattle.std.specs.Prelude.{◌≡◌, ℕ, ◌+◌, ◌/◌, ◌%◌, ◌^◌, ◌<◌, true, false, List as Seq, [], ◌∷◌, ◌++◌, Some, None, length, drop, MatchResult, slice_get, slice_index_or, slice_set, replicate};
 ghost use denote.RawPtr.{Ptr, block_ptr, block_of};
-ghost use Rattle.lmn_web_rows.specs.Rows.{Row, spare, items_in, half_at, with_half_at, halves_in, with_items, cut_row, with_use, first_rows, later_rows, AreSideBySide, block_at, place_of, link, number, blank, IsStart};
+ghost use Rattle.lmn_web_rows.specs.Rows.{Row, spare, items_in, half_at, with_half_at, halves_in, with_items, cut_row, with_use, forgotten, first_rows, later_rows, AreSideBySide, block_at, place_of, link, number, blank, IsStart};
 ghost use Rattle.lmn_web_rows.specs.Owned.{rows_own, rows_lent, blocks_own};
 
 use std::alloc::{AllocError, Allocator, Global};
@@ -42,16 +42,16 @@ impl Rows {
         ensures { (self.new.rows ≡ cut_row (place_of at) count self.old.rows) × (items_in self.old.rows (place_of at + count) ≡ []) }
     {}
 
-    /// A row comes into use, in which nothing was written.
+    /// A row comes into use, of which nothing is known but the word with its number.
     pub fn revive(&mut self, at: *mut u8)
         requires { IsStart at }
-        ensures { self.new.rows ≡ with_use true (place_of at) (with_items (place_of at) (replicate (length (items_in self.old.rows (place_of at))) blank) self.old.rows) }
+        ensures { self.new.rows ≡ with_use true (place_of at) (with_items (place_of at) (forgotten (items_in self.old.rows (place_of at))) self.old.rows) }
     {}
 
-    /// A row isn't in use any more, and nothing is known of its words.
+    /// A row isn't in use any more.
     pub fn retire(&mut self, at: *mut u8)
         requires { IsStart at }
-        ensures { self.new.rows ≡ with_use false (place_of at) (with_items (place_of at) (replicate (length (items_in self.old.rows (place_of at))) blank) self.old.rows) }
+        ensures { self.new.rows ≡ with_use false (place_of at) self.old.rows }
     {}
 
     /// The pointer in a word.

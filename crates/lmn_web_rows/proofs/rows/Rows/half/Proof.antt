@@ -1,5 +1,5 @@
 -- `half` reads one half of a word that the rows lend. Assumes `Logic`.
-use Rattle.lmn_web_rows.proofs.Steps.{◌≡◌, ℕ, ◌+◌, ◌*◌, ◌^◌, ◌<◌, List, [], ◌∷◌, get_or, Some, None, refl, sym, subst, w32, w64, arith, proved, SProp, ent, id⊢, ftrue, flft, named, Val, vint, vptr, WpFn, fact, tables, ‵, raw, ◌⊛◌, at_ret, ◌$◌, ◌∵◌, !, qed, done, move, keep, drop, use1, split, join, fsplit, fjoin, feq_i, flt_i, rewrite, suffices, frame, enter, of_opd, lit, bin, load, look, stop, first, blocks, exec, returns, alloc_all, pass_all, free_all, look_at, get, through, sets, sets_last, env, usize, RefOf, yes, owns, hide, unhide, uint_vals, uint_Tells, Ptr, RawPtr, block_ptr, ptr_val, rawptr_vals, rawptr_Tells, shr_vals, shr_Tells, plain, types_at, nothing, heard, Stays, walk_of, says, stay_dropped, Goes-dropped, ends_at}
+use Rattle.lmn_web_rows.proofs.Steps.{◌≡◌, ℕ, ◌+◌, ◌*◌, ◌^◌, ◌<◌, List, [], ◌∷◌, Some, refl, sym, subst, w32, w64, arith, proved, SProp, ent, id⊢, ftrue, flft, named, Val, vint, vptr, WpFn, fact, tables, ‵, raw, ◌⊛◌, at_ret, ◌$◌, ◌∵◌, !, qed, done, move, keep, drop, use1, split, join, fsplit, fjoin, feq_i, flt_i, suffices, frame, enter, of_opd, lit, bin, load, look, stop, first, blocks, exec, returns, alloc_all, pass_all, free_all, look_at, get, through, sets, sets_last, env, usize, RefOf, yes, owns, hide, unhide, uint_vals, uint_Tells, Ptr, RawPtr, block_ptr, ptr_val, rawptr_vals, rawptr_Tells, shr_vals, shr_Tells, plain, types_at, nothing, heard, Stays, walk_of, says, stay_dropped, Goes-dropped, ends_at}
 use Rattle.std.proofs.Common.{◌/◌, ◌%◌}
 use Rattle.lmn_web_rows.specs.Rows.{items_in, half_at, IsStart, block_at, byte_at, place_of}
 use Rattle.lmn_web_rows.specs.Owned.{half_lent}

@@ -1,5 +1,5 @@
 -- `set_half` writes one half of a word of the rows. Assumes `Logic`.
-use Rattle.lmn_web_rows.proofs.Steps.{ℕ, ◌+◌, ◌*◌, ◌^◌, ◌<◌, List, [], ◌∷◌, length, get_or, set, refl, sym, subst, w64, arith, proved, full_share, SProp, ent, all, all_e, apply∗, id⊢, ftrue, froom, flft, named, Val, vunit, vint, vptr, WpFn, fact, tables, sem, ‵, raw, ◌⊛◌, at_ret, ◌$◌, ◌∵◌, !, qed, done, move, keep, use1, use2, split, join, fsplit, fsplit3, fjoin, feq_i, suffices, frame, group, enter, of_opd, lit, unit_lit, bin, stop, assigns_last, init, first, blocks, exec, returns, alloc_all, pass_all, free_all, look_at, get, through, sets, env, u32, usize, part_at, w32, yes, owns, uint_in, uint_vals, uint_Tells, Ptr, RawPtr, block_ptr, ptr_val, rawptr_vals, rawptr_Tells, mut_vals, mut_Tells, plain, types_at, nothing, heard, opens, closes, Stays, walk_of, says, stay_dropped, Goes-dropped, stay_ref, Goes-ref, ends_at}
+use Rattle.lmn_web_rows.proofs.Steps.{ℕ, ◌+◌, ◌*◌, ◌^◌, ◌<◌, List, [], ◌∷◌, length, get_or, refl, sym, subst, w64, arith, proved, full_share, SProp, ent, all, all_e, apply∗, id⊢, ftrue, froom, flft, named, Val, vunit, vint, vptr, WpFn, fact, tables, sem, ‵, raw, ◌⊛◌, at_ret, ◌$◌, ◌∵◌, !, qed, done, move, keep, use1, use2, split, join, fsplit, fsplit3, fjoin, feq_i, suffices, frame, group, enter, of_opd, lit, unit_lit, bin, stop, assigns_last, init, first, blocks, exec, returns, alloc_all, pass_all, free_all, look_at, get, through, sets, env, u32, usize, part_at, w32, yes, owns, uint_in, uint_vals, uint_Tells, Ptr, RawPtr, block_ptr, ptr_val, rawptr_vals, rawptr_Tells, mut_vals, mut_Tells, plain, types_at, nothing, heard, opens, closes, Stays, walk_of, says, stay_dropped, Goes-dropped, stay_ref, Goes-ref, ends_at}
 use Rattle.std.proofs.Common.{◌/◌, ◌%◌}
 use Rattle.lmn_web_rows.specs.Rows.{Item, items_in, with_items, halves_in, with_half_at, blank, IsStart, block_at, byte_at, place_of}
 use Rattle.lmn_web_rows.specs.Owned.{half, rows_own}

@@ -1,4 +1,4 @@
-use Rattle.std.proofs.Common.{◌≡◌, ℕ, ◌∙◌, List, Some, sym, subst, ap}
+use Rattle.std.proofs.Common.{◌≡◌, ◌∙◌, List, Some, sym, subst, ap}
 use Rattle.lmn_web_rows.specs.Rows.{Item, place_of, items_in, half_at}
 use Rattle.lmn_web_rows.specs.Seen.{Stored}
 use Rattle.lmn_web_rows.proofs.StoreLemmas.{half_same}
