@@ -1,35 +1,34 @@
 -- Cells that are made, and that are freed.
-use Rattle.std.proofs.Common.{◌≡◌, ◌≢◌, ◌==◌, ℕ, ◌+◌, ◌*◌, ◌<◌, ◌^◌, List, [], length, Option, Some, None, IsSome, refl, sym, subst, ap, ◌∙◌, inl, inr, arith, zero, suc, get_or, replicate}
+use Rattle.std.proofs.Common.{◌≡◌, ◌≢◌, ◌==◌, ℕ, ◌+◌, ◌*◌, ◌<◌, ◌^◌, List, [], ◌∷◌, ◌++◌, length, Option, Some, None, IsSome, refl, sym, subst, ap, ◌∙◌, inl, inr, arith, zero, suc, get_or, replicate}
 use Rattle.std.proofs.lemmas.Bool.{cases_eq}
 use lib.ListN.{length-replicate}
-use Rattle.lmn_web_cells.specs.Rows.{Item, Row, blank, items_in, with_items}
+use Rattle.lmn_web_cells.specs.Rows.{Item, Row, halves, items_in, with_items}
+use Rattle.lmn_web_cells.specs.Fillings.{unwritten}
 use Rattle.lmn_web_rows.specs.Seen.{HaveSameWords, IsMade, IsGone}
-use Rattle.lmn_web_cells.specs.Cells.{HeldCell, cell_items, cell_by, cells_by, blank_cell, blank_membrane, no_port, IsShaped, IsLaid, AreLaid, IsLinkWord, link_of, link_to, numbers_of, ports_of, with_link}
+use Rattle.lmn_web_cells.specs.Cells.{HeldCell, cell_items, cell_by, cells_by, both, index_alone, blank_cell, blank_membrane, IsNewIndex, no_port, IsShaped, IsLaid, AreLaid, IsLinkWord, link_of, link_to, numbers_of, ports_of, with_link}
 use Rattle.lmn_store_heap.specs.Heap.{alter}
 use Rattle.lmn_web_cells.proofs.CellWords.{cell_back, word_count, atom_count, membrane_count}
-use Rattle.lmn_web_cells.proofs.CellRows.{Changed, found, items_same, items_away, words_there, link_changes, last_link_changes}
+use Rattle.lmn_web_cells.proofs.FillLemmas.{unwritten_length}
+use Rattle.lmn_web_cells.proofs.CellRows.{Changed, found, number_word_is, items_same, items_away, words_there, link_changes, last_link_changes}
 use Rattle.lmn_base.proofs.Numbers.{not_equal}
 use Rattle.lmn_base.proofs.Truth.{if_no}
 use Rattle.lmn_store_heap.proofs.Listing.{alter_at, alter_away}
 
-none_is : (n k : ℕ) → ◌≡◌ {A = ℕ} (get_or (replicate n 0) k 0) 0
-none_is zero k = refl
-none_is (suc n) zero = refl
-none_is (suc n) (suc k) = none_is n k
-
-small_none : (n k : ℕ) → k < 2 → get_or (replicate n 0) k 0 < 2 ^ 32
-small_none n k low = let e = none_is n k in omega (arith, e)
+small_none : (i k : ℕ) (more : List ℕ) → k < 2 → get_or (index_alone i ++ more) k 0 < 256
+small_none i zero more low = omega arith
+small_none i (suc zero) more low = omega arith
+small_none i (suc (suc k)) more low = absurd (omega (arith, low))
 
 narrow_none : (n k : ℕ) → (get_or (replicate n no_port) k no_port).port < 256
 narrow_none zero k = omega arith
 narrow_none (suc n) zero = omega arith
 narrow_none (suc n) (suc k) = narrow_none n k
 
-blank_shaped : (p : ℕ) → p < 256 → IsShaped (blank_cell p)
-blank_shaped p few = record { links = refl; numbers = inl (refl, refl); small = small_none 6; few = subst (λ n. n < 256) (sym (length-replicate p no_port)) few; narrow = narrow_none p }
+blank_shaped : (i p : ℕ) → p < 256 → IsShaped (blank_cell i p)
+blank_shaped i p few = record { links = refl; numbers = inl (refl, refl); small = λ k low. small_none i k [] low; few = subst (λ n. n < 256) (sym (length-replicate p no_port)) few; narrow = narrow_none p }
 
-membrane_shaped : IsShaped blank_membrane
-membrane_shaped = record { links = refl; numbers = inr (refl, refl); small = small_none 8; few = omega arith; narrow = narrow_none 1 }
+membrane_shaped : (i : ℕ) → IsShaped (blank_membrane i)
+membrane_shaped i = record { links = refl; numbers = inr (refl, refl); small = λ k low. small_none i k (0 ∷ 0 ∷ []) low; few = omega arith; narrow = narrow_none 1 }
 
 -- the rows after a call, as cells
 pub record Cells (old new : List Row) (b : ℕ) (c : Option HeldCell) : Type 0 where
@@ -51,17 +50,23 @@ changed old new b is o laid good cell here away =
 -- the cells after one was made, which was written whole
 made_cell : (old mid new : List Row) (b words : ℕ) (c : HeldCell) → AreLaid old → IsShaped c → 0 < words → IsMade old mid b words → new ≡ with_items b (cell_items c) mid → Cells old new b (Some c)
 made_cell old mid new b words c laid shaped some m e =
-    let is = cell_items c in let n = length-replicate words blank in let has : 0 < length (items_in mid b) = subst (λ (js : List Item). 0 < length js) (sym m.made) (omega (arith, n, some)) in
+    let is = cell_items c in let n = unwritten_length words m.number m.beside in let has : 0 < length (items_in mid b) = subst (λ (js : List Item). 0 < length js) (sym m.made) (omega (arith, n, some)) in
     changed old new b is (Some c) laid (inr (c, shaped, refl)) (cell_back c shaped) (ap (λ (z : List Row). items_in z b) e ∙ items_same mid b is has)
     (λ j d. ap (λ (z : List Row). items_in z j) e ∙ items_away mid b is j d ∙ m.others j d)
 
 -- that of an atom
-pub made : (old mid new : List Row) (b p : ℕ) → AreLaid old → p < 256 → IsMade old mid b (12 + p * 2) → new ≡ with_items b (cell_items (blank_cell p)) mid → Cells old new b (Some (blank_cell p))
-made old mid new b p laid few m e = made_cell old mid new b (12 + p * 2) (blank_cell p) laid (blank_shaped p few) (omega arith) m e
+pub made : (old mid new : List Row) (b p : ℕ) → AreLaid old → p < 256 → (m : IsMade old mid b (11 + p * 2)) → ((i : ℕ) (x : Option ℕ) → items_in mid b ≡ unwritten (11 + p * 2) i x → new ≡ with_items b (cell_items (blank_cell i p)) mid)
+    → Cells old new b (Some (blank_cell m.number p))
+made old mid new b p laid few m e = made_cell old mid new b (11 + p * 2) (blank_cell m.number p) laid (blank_shaped m.number p few) (omega arith) m (e m.number m.beside m.made)
 
 -- and of a membrane
-pub made_membrane : (old mid new : List Row) (b : ℕ) → AreLaid old → IsMade old mid b 17 → new ≡ with_items b (cell_items blank_membrane) mid → Cells old new b (Some blank_membrane)
-made_membrane old mid new b laid m e = made_cell old mid new b 17 blank_membrane laid membrane_shaped (omega arith) m e
+pub made_membrane : (old mid new : List Row) (b : ℕ) → AreLaid old → (m : IsMade old mid b 16) → ((i : ℕ) (x : Option ℕ) → items_in mid b ≡ unwritten 16 i x → new ≡ with_items b (cell_items (blank_membrane i)) mid)
+    → Cells old new b (Some (blank_membrane m.number))
+made_membrane old mid new b laid m e = made_cell old mid new b 16 (blank_membrane m.number) laid (membrane_shaped m.number) (omega arith) m (e m.number m.beside m.made)
+
+-- its index is new
+pub new_index : (old mid : List Row) (b words : ℕ) → AreLaid old → (m : IsMade old mid b words) → IsNewIndex (cells_by old) m.number
+new_index old mid b words laid m = λ a there e. m.fresh a (_, number_word_is old a laid there ∙ ap (λ (i : ℕ). halves i (both (get_or (numbers_of (cells_by old a)) 0 0) (get_or (numbers_of (cells_by old a)) 1 0))) e)
 
 -- the cells after one was freed
 pub freed : (old new : List Row) (b : ℕ) → AreLaid old → IsGone old new b → Cells old new b None
@@ -80,17 +85,17 @@ few_ports rows b p laid there e =
     let f = found rows b laid there in let few = f.shaped.few in let same : length f.cell.ports ≡ p = sym (ap (λ (o : Option HeldCell). length (ports_of o)) f.is) ∙ e in omega (arith, few, same)
 
 -- how many words the row of a cell has
-pub count_words : (rows : List Row) (b p : ℕ) → AreLaid rows → IsSome (cells_by rows b) → length (numbers_of (cells_by rows b)) ≡ 6 → length (ports_of (cells_by rows b)) ≡ p → length (items_in rows b) ≡ 12 + p * 2
+pub count_words : (rows : List Row) (b p : ℕ) → AreLaid rows → IsSome (cells_by rows b) → length (numbers_of (cells_by rows b)) ≡ 6 → length (ports_of (cells_by rows b)) ≡ p → length (items_in rows b) ≡ 11 + p * 2
 count_words rows b p laid there six e =
     let f = found rows b laid there in let same : length f.cell.ports ≡ p = sym (ap (λ (o : Option HeldCell). length (ports_of o)) f.is) ∙ e in
-    let n : length f.cell.numbers ≡ 6 = sym (ap (λ (o : Option HeldCell). length (numbers_of o)) f.is) ∙ six in let w = word_count f.cell f.shaped in let z = atom_count f.cell n in let e : length (cell_items f.cell) ≡ 12 + p * 2 = omega (arith, w, z, same) in
+    let n : length f.cell.numbers ≡ 6 = sym (ap (λ (o : Option HeldCell). length (numbers_of o)) f.is) ∙ six in let w = word_count f.cell f.shaped in let z = atom_count f.cell n in let e : length (cell_items f.cell) ≡ 11 + p * 2 = omega (arith, w, z, same) in
     ap (λ (is : List Item). length is) f.words ∙ e
 
 -- and that of a membrane
-pub count_membrane : (rows : List Row) (b : ℕ) → AreLaid rows → IsSome (cells_by rows b) → length (numbers_of (cells_by rows b)) ≡ 8 → length (items_in rows b) ≡ 17
+pub count_membrane : (rows : List Row) (b : ℕ) → AreLaid rows → IsSome (cells_by rows b) → length (numbers_of (cells_by rows b)) ≡ 8 → length (items_in rows b) ≡ 16
 count_membrane rows b laid there eight =
     let f = found rows b laid there in let n : length f.cell.numbers ≡ 8 = sym (ap (λ (o : Option HeldCell). length (numbers_of o)) f.is) ∙ eight in let w = word_count f.cell f.shaped in
-    let e : length (cell_items f.cell) ≡ 17 = elim f.shaped.numbers [
+    let e : length (cell_items f.cell) ≡ 16 = elim f.shaped.numbers [
       | inl six ↦ (let e = six.0 in absurd (omega (arith, e, n)))
       | inr e ↦ (let one = e.1 in let z = membrane_count f.cell n in omega (arith, w, z, one))
     ] in
@@ -100,12 +105,17 @@ count_membrane rows b laid there eight =
 
 -- one of the first seven is its own number
 pub link_itself : (word : ℕ) → word < 7 → link_of word ≡ word
-link_itself word low = if_no (word == 16) 7 word (not_equal word 16 (λ (e : word ≡ 16). absurd (omega (arith, e, low))))
+link_itself word low = if_no (word == 15) 7 word (not_equal word 15 (λ (e : word ≡ 15). absurd (omega (arith, e, low))))
 
 -- a word of a link is one of the first
 pub word_small : (c : Option HeldCell) (word : ℕ) → IsLinkWord c word → word < 2 ^ 32
 word_small c word (inl low) = omega (arith, low)
 word_small c word (inr last) = let e = last.0 in omega (arith, e)
+
+-- and not that of the index
+pub word_apart : (c : Option HeldCell) (word : ℕ) → IsLinkWord c word → word ≢ 7
+word_apart c word (inl low) = λ e. absurd (omega (arith, low, e))
+word_apart c word (inr last) = let l = last.0 in λ e. absurd (omega (arith, l, e))
 
 -- it is a word of the row
 pub word_there : (rows : List Row) (b word : ℕ) → AreLaid rows → IsSome (cells_by rows b) → IsLinkWord (cells_by rows b) word → word < length (items_in rows b)

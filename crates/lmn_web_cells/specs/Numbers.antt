@@ -1,7 +1,7 @@
 -- The numbers of a cell, by what they say.
 use Rattle.std.specs.Prelude.{ℕ}
 
--- how many ports it has, and what it stands for: small numbers
+-- how many ports it has, and what it stands for: numbers below 256
 abbrev pub ARITY : ℕ
 ARITY = 0
 

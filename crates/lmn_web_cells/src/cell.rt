@@ -1,18 +1,19 @@
-//! Cells: rows with seven links, six numbers, of which two have half a word each, and two words for each port, of which a membrane has one, and behind it two
+//! Cells: rows with seven links, six numbers, of which three stand in one word, and two words for each port, of which a membrane has one, and behind it two
 //! numbers and a link more.
-ghost use Rattle.std.specs.Prelude.{◌≡◌, ℕ, ◌+◌, ◌*◌, ◌^◌, ◌<◌, ◌≤◌, ◌∷◌, length, IsSome, None, Some, MatchResult, slice_index_or};
+ghost use Rattle.std.specs.Prelude.{◌≡◌, ◌≢◌, ◌==◌, if◌then◌else◌, ℕ, ◌+◌, ◌*◌, ◌/◌, ◌%◌, ◌^◌, ◌<◌, ◌≤◌, ◌∷◌, length, IsSome, None, Some, MatchResult, slice_index_or};
 ghost use Rattle.std.specs.Option.{option_map};
-ghost use Rattle.lmn_web_cells.specs.Cells.{cells_by, links_of, numbers_of, ports_of, port_of, with_link, with_number, with_to, with_port, with_mark, pointer_to, blank_cell, blank_membrane, HaveFewPorts, HaveLinks, IsLinkWord, link_of};
+ghost use Rattle.lmn_web_cells.specs.Cells.{cells_by, links_of, numbers_of, ports_of, port_of, with_link, with_number, with_to, with_port, with_mark, pointer_to, blank_cell, blank_membrane, IsNewIndex, HaveFewPorts, HaveLinks, IsLinkWord, link_of};
 ghost use Rattle.lmn_store_heap.specs.Heap.{alter};
 ghost use Rattle.lmn_web_cells.specs.CellIds.{cell_id, IsLink, led_by};
 
 use crate::filling::{
-    FIRST_PORT, LAST_LINK_WORD, LINKS, MEMBRANE_WORDS, PORT_WORDS, SMALL_NUMBERS, atom_words, fill,
-    fill_membrane,
+    FIRST_PORT, LAST_LINK_WORD, LINKS, MEMBRANE_WORDS, PORT_WORDS, SMALL, SMALL_NUMBERS,
+    atom_words, fill, fill_membrane,
 };
 use crate::handle::Cell;
+use crate::numbers::{ARITY, INDEX};
 use lmn_web_rows::pointers::{is_nowhere, nowhere};
-use lmn_web_rows::store::Store;
+use lmn_web_rows::store::{NUMBER as INDEX_HALF, Store};
 use std::alloc::{AllocError, Global};
 use std::marker::Model;
 
@@ -58,12 +59,12 @@ impl Cells {
         rows.end();
     }
 
-    /// A new cell of an atom, in which nothing is set.
+    /// A new cell of an atom, in which nothing is set but its index, which no other cell has.
     #[inline(always)]
     pub fn make(&mut self, ports: usize) -> Result<Cell, AllocError>
         requires { ports < 256 }
         ensures { MatchResult result
-            (λ c. (cells_by self.old (cell_id c) ≡ None) × (cells_by self.new ≡ alter (cells_by self.old) (cell_id c) (λ _. Some (blank_cell ports))))
+            (λ c. (cells_by self.old (cell_id c) ≡ None) × (index : ℕ) × (index < 2 ^ 32) × IsNewIndex (cells_by self.old) index × (cells_by self.new ≡ alter (cells_by self.old) (cell_id c) (λ _. Some (blank_cell index ports))))
             (λ _. cells_by self.new ≡ cells_by self.old) }
     {
         match self.rows.make(atom_words(ports)) {
@@ -75,10 +76,10 @@ impl Cells {
         }
     }
 
-    /// A new cell of a membrane, in which nothing is set.
+    /// A new cell of a membrane, in which nothing is set but its index, which no other cell has.
     pub fn make_membrane(&mut self) -> Result<Cell, AllocError>
         ensures { MatchResult result
-            (λ c. (cells_by self.old (cell_id c) ≡ None) × (cells_by self.new ≡ alter (cells_by self.old) (cell_id c) (λ _. Some blank_membrane)))
+            (λ c. (cells_by self.old (cell_id c) ≡ None) × (index : ℕ) × (index < 2 ^ 32) × IsNewIndex (cells_by self.old) index × (cells_by self.new ≡ alter (cells_by self.old) (cell_id c) (λ _. Some (blank_membrane index))))
             (λ _. cells_by self.new ≡ cells_by self.old) }
     {
         match self.rows.make(MEMBRANE_WORDS) {
@@ -168,24 +169,29 @@ impl Cells {
         ensures { result ≡ slice_index_or (numbers_of (cells_by self.now (cell_id c))) k 0 }
     {
         if k < SMALL_NUMBERS {
-            return self.rows.half(c.at, 2 * LINKS + k) as u64;
+            return part(k, self.rows.half(c.at, SMALL)) as u64;
         }
-        self.rows.number(c.at, LINKS + k - 1)
+        if k == INDEX {
+            return self.rows.half(c.at, INDEX_HALF) as u64;
+        }
+        self.rows.number(c.at, LINKS + k - 2)
     }
 
-    /// A number that each cell has is another. The first two are below 2^32.
+    /// A number that each cell has is another, but not the index. The first two are below 256.
     #[inline(always)]
     pub fn set_number(&mut self, c: Cell, k: usize, n: u64)
         requires there { IsSome (cells_by self.old (cell_id c)) }
         requires below { k < 6 }
-        requires small { k < 2 → n < 2 ^ 32 }
+        requires index { k ≢ INDEX }
+        requires small { k < 2 → n < 256 }
         ensures { cells_by self.new ≡ alter (cells_by self.old) (cell_id c) (option_map (with_number k n)) }
     {
         if k < SMALL_NUMBERS {
-            self.rows.set_half(c.at, 2 * LINKS + k, n as u32);
+            let all = self.rows.half(c.at, SMALL);
+            self.rows.set_half(c.at, SMALL, with_part(k, n as u8, all));
             return;
         }
-        self.rows.set_number(c.at, LINKS + k - 1, n);
+        self.rows.set_number(c.at, LINKS + k - 2, n);
     }
 
     /// A number that only membranes have.
@@ -273,11 +279,33 @@ impl Cells {
     }
 }
 
+// One of the two small numbers, of both as one number.
+#[inline(always)]
+fn part(k: usize, all: u32) -> u32
+    requires { k < 2 }
+    ensures { result ≡ (if k == ARITY then all % 256 else all / 256) }
+{
+    if k == ARITY { all % 256 } else { all / 256 }
+}
+
+// Both of them as one number, of which one is another.
+#[inline(always)]
+fn with_part(k: usize, n: u8, all: u32) -> u32
+    requires small { all < 2 ^ 16 }
+    ensures { result ≡ (if k == ARITY then all / 256 * 256 + n else n * 256 + all % 256) }
+{
+    if k == ARITY {
+        all / 256 * 256 + n as u32
+    } else {
+        n as u32 * 256 + all % 256
+    }
+}
+
 // The word with the number of the port to which a port leads, and with the mark.
 #[inline(always)]
 fn number_word(j: usize) -> usize
     requires { j < 256 }
-    ensures { result ≡ 12 + (j * 2 + 1) }
+    ensures { result ≡ 11 + (j * 2 + 1) }
 {
     FIRST_PORT + (j * PORT_WORDS + NUMBER)
 }

@@ -16,7 +16,7 @@ pub const ATOMS: usize = 3;
 pub const MEMBRANES: usize = 5;
 
 /// The word of the last link of a membrane, to the first atom of a class.
-pub const LEADERS_WORD: usize = 16;
+pub const LEADERS_WORD: usize = 15;
 
 /// The link of an atom to the next one of its class.
 pub const CLASS_NEXT: usize = 3;

@@ -1,30 +1,42 @@
-use Rattle.std.proofs.Common.{◌≡◌, ℕ, ◌+◌, ◌*◌, ◌<◌, ◌++◌, List, length, replicate, sym, subst, ap, ◌∙◌, arith}
-use lib.ListN.{length-replicate}
-use Rattle.lmn_web_cells.specs.Rows.{Item, Row, items_in, with_items, blank, place_of}
+use Rattle.std.proofs.Common.{◌≡◌, ℕ, ◌+◌, ◌*◌, ◌<◌, ◌∷◌, ◌++◌, List, Option, drop, length, replicate, sym, subst, ap, ◌∙◌, arith}
+use Rattle.lmn_web_cells.specs.Rows.{Item, Row, items_in, with_items, blank, numbered, place_of}
 use Rattle.lmn_web_cells.specs.Cells.{cell_items, blank_cell, blank_links, blank_numbers}
-use Rattle.lmn_web_cells.proofs.CellRows.{items_same}
-use Rattle.lmn_web_cells.proofs.FillLemmas.{with_twice}
+use Rattle.lmn_web_cells.specs.Fillings.{ports_filled, unwritten}
+use Rattle.lmn_web_cells.proofs.FillLemmas.{then, written, ports_none, behind_seven, unwritten_length}
 use Rattle.lmn_web_cells.proofs.filling.fill.Goals as goal
 
-some : (rows : List Row) (b p : ℕ) → items_in rows b ≡ replicate (12 + p * 2) blank → 0 < length (items_in rows b)
-some rows b p e = subst (λ (is : List Item). 0 < length is) (sym e) (let n = length-replicate (12 + p * 2) blank in omega (arith, n))
+long : (rows : List Row) (b p i : ℕ) (x : Option ℕ) → items_in rows b ≡ unwritten (11 + p * 2) i x → 7 < length (items_in rows b)
+long rows b p i x e = subst (λ (is : List Item). 7 < length is) (sym e) (let n = unwritten_length (11 + p * 2) i x in omega (arith, n))
+
+-- the words behind the links
+links_filled : (old rows : List Row) (b p i : ℕ) (x : Option ℕ) → items_in old b ≡ unwritten (11 + p * 2) i x → rows ≡ with_items b (blank_links 7 ++ drop 7 (items_in old b)) old
+    → rows ≡ with_items b (blank_links 7 ++ (numbered i x ∷ replicate (3 + p * 2) blank)) old
+links_filled old rows b p i x e f = f ∙ ap (λ (is : List Item). with_items b (blank_links 7 ++ is) old) (ap (drop 7) e ∙ behind_seven i x (p * 2))
 
 pub fill_links-requires-clause-words : goal.fill_links-requires-clause-words
-fill_links-requires-clause-words c = let n : 12 + c.args.ports * 2 ≡ 7 + (5 + c.args.ports * 2) = omega arith in c.requires.words ∙ (λ t. replicate (n t) blank)
+fill_links-requires-clause-words c = long c.args.rows.now.rows (place_of c.args.at) c.args.ports c.requires.words.0 c.requires.words.1 c.requires.words.2
 
 pub fill_numbers-requires-clause-words : goal.fill_numbers-requires-clause-words
 fill_numbers-requires-clause-words c =
-    let b = place_of c.args.at in let p = c.args.ports in
-    ap (λ (rs : List Row). items_in rs b) c.fill_links.ensures ∙ items_same c.args.rows.now.rows b (blank_links 7 ++ replicate (5 + p * 2) blank) (some c.args.rows.now.rows b p c.requires.words)
+    let old = c.args.rows.now.rows in let b = place_of c.args.at in let p = c.args.ports in let i = c.requires.words.0 in let x = c.requires.words.1 in let words = c.requires.words.2 in
+    let some = long old b p i x words in
+    (i, x, written old c.fill_links.new.rows.rows b (blank_links 7 ++ (numbered i x ∷ replicate (3 + p * 2) blank)) (omega (arith, some)) (links_filled old c.fill_links.new.rows.rows b p i x words c.fill_links.ensures))
+
+-- the words behind the numbers
+numbers_filled : (old mid rows : List Row) (b p i : ℕ) (x : Option ℕ) → items_in old b ≡ unwritten (11 + p * 2) i x → mid ≡ with_items b (blank_links 7 ++ drop 7 (items_in old b)) old
+    → (items_in mid b ≡ blank_links 7 ++ (numbered i x ∷ replicate (3 + p * 2) blank) → rows ≡ with_items b (blank_links 7 ++ (blank_numbers i ++ replicate (p * 2) blank)) mid) → rows ≡ with_items b (ports_filled i p 0) old
+numbers_filled old mid rows b p i x e f g =
+    let some = long old b p i x e in let first = links_filled old mid b p i x e f in let is = blank_links 7 ++ (numbered i x ∷ replicate (3 + p * 2) blank) in
+    then old mid rows b is (blank_links 7 ++ (blank_numbers i ++ replicate (p * 2) blank)) first (g (written old mid b is (omega (arith, some)) first)) ∙ ap (λ (js : List Item). with_items b js old) (ports_none i p)
 
 pub fill_ports-requires-clause-words : goal.fill_ports-requires-clause-words
 fill_ports-requires-clause-words c =
-    let b = place_of c.args.at in let p = c.args.ports in let first = blank_links 7 ++ replicate (5 + p * 2) blank in let second = blank_links 7 ++ (blank_numbers ++ replicate (p * 2) blank) in
-    ap (λ (rs : List Row). items_in rs b) (c.fill_numbers.ensures ∙ ap (with_items b second) c.fill_links.ensures ∙ with_twice c.args.rows.now.rows b first second)
-    ∙ items_same c.args.rows.now.rows b second (some c.args.rows.now.rows b p c.requires.words)
+    let old = c.args.rows.now.rows in let b = place_of c.args.at in let p = c.args.ports in let i = c.requires.words.0 in let x = c.requires.words.1 in let words = c.requires.words.2 in
+    let some = long old b p i x words in
+    (i, written old c.fill_numbers.new.rows.rows b (ports_filled i p 0) (omega (arith, some)) (numbers_filled old c.fill_links.new.rows.rows c.fill_numbers.new.rows.rows b p i x words c.fill_links.ensures (c.fill_numbers.ensures i x)))
 
 pub returns : goal.returns
-returns c =
-    let b = place_of c.args.at in let p = c.args.ports in let first = blank_links 7 ++ replicate (5 + p * 2) blank in let second = blank_links 7 ++ (blank_numbers ++ replicate (p * 2) blank) in let third = cell_items (blank_cell p) in
-    c.fill_ports.ensures ∙ ap (with_items b third) (c.fill_numbers.ensures ∙ ap (with_items b second) c.fill_links.ensures ∙ with_twice c.args.rows.now.rows b first second)
-    ∙ with_twice c.args.rows.now.rows b second third
+returns c = λ i x words.
+    let old = c.args.rows.now.rows in let b = place_of c.args.at in let p = c.args.ports in let some = long old b p i x words in
+    let two = numbers_filled old c.fill_links.new.rows.rows c.fill_numbers.new.rows.rows b p i x words c.fill_links.ensures (c.fill_numbers.ensures i x) in
+    then old c.fill_numbers.new.rows.rows c.fill_ports.new.rows.rows b (ports_filled i p 0) (cell_items (blank_cell i p)) two (c.fill_ports.ensures i (written old c.fill_numbers.new.rows.rows b (ports_filled i p 0) (omega (arith, some)) two))

@@ -10,7 +10,7 @@ use Rattle.lmn_web_cells.proofs.cell.Cells.set_link.Goals as goal
 pub set_link-requires : goal.set_link-requires
 set_link-requires c =
     let there : IsSome (cells_by c.self.inside.rows.rows (cell_id c.args.c)) = subst (λ (z : List Row). IsSome (cells_by z (cell_id c.args.c))) (sym c.self.view_is) c.requires.there in let low = c.requires.below in
-    let some = words_there _ _ c.self.invariant there in (c.args.c.start, omega (arith, low), omega (arith, low, some))
+    let some = words_there _ _ c.self.invariant there in (c.args.c.start, omega (arith, low), (λ e. absurd (omega (arith, e, low))), omega (arith, low, some))
 
 pub invariant_of-self : goal.invariant_of-self
 invariant_of-self c =

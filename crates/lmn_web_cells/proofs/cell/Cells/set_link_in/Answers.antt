@@ -5,14 +5,14 @@ use Rattle.lmn_web_cells.specs.Cells.{cells_by, link_to, with_link, IsLinkWord, 
 use Rattle.lmn_store_heap.specs.Heap.{alter}
 use Rattle.lmn_web_cells.specs.CellIds.{cell_id}
 use Rattle.lmn_web_cells.proofs.CellRows.{laid_after, cells_after}
-use Rattle.lmn_web_cells.proofs.MadeLemmas.{word_changes, word_there, word_small}
+use Rattle.lmn_web_cells.proofs.MadeLemmas.{word_apart, word_changes, word_there, word_small}
 use Rattle.lmn_web_cells.proofs.cell.Cells.set_link_in.Goals as goal
 
 pub set_link-requires : goal.set_link-requires
 set_link-requires c =
     let there : IsSome (cells_by c.self.inside.rows.rows (cell_id c.args.c)) = subst (λ (z : List Row). IsSome (cells_by z (cell_id c.args.c))) (sym c.self.view_is) c.requires.there in
     let is_word : IsLinkWord (cells_by c.self.inside.rows.rows (cell_id c.args.c)) c.args.word = subst (λ (z : List Row). IsLinkWord (cells_by z (cell_id c.args.c)) c.args.word) (sym c.self.view_is) c.requires.word in
-    (c.args.c.start, word_small (cells_by c.self.inside.rows.rows (cell_id c.args.c)) c.args.word is_word, word_there _ _ c.args.word c.self.invariant there is_word)
+    (c.args.c.start, word_small (cells_by c.self.inside.rows.rows (cell_id c.args.c)) c.args.word is_word, word_apart (cells_by c.self.inside.rows.rows (cell_id c.args.c)) c.args.word is_word, word_there _ _ c.args.word c.self.invariant there is_word)
 
 pub invariant_of-self : goal.invariant_of-self
 invariant_of-self c =
