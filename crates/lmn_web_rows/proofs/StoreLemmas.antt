@@ -116,6 +116,7 @@ store_stays rows rows' bs bs' all all' p left firsts s depth' t l f = record {
   tiled = t;
   leads = l;
   rest = rest_stays rows rows' s.depth depth' p left s.rest f;
+  lengths = s.lengths;
   kept = λ w. ((s.kept w).0, kept_on rows rows' s.depth depth' w (s.kept w).0 (get_or firsts w null_ptr) (s.kept w).1 (λ y e sp some n q h. f y sp some));
 }
 
@@ -303,17 +304,7 @@ pub kept_near : (rows : List Row) (depth : Depths) (w d : ℕ) (p : Ptr) → Are
 kept_near rows depth w zero p k = subst IsNear (sym k) (omega arith)
 kept_near rows depth w (suc d) p k = near p k.0.start
 
--- what stands in a list, whatever is read past its end
-same_default : (xs : List Ptr) (k : ℕ) (a b : Ptr) → k < length xs → get_or xs k a ≡ get_or xs k b
-same_default [] k a b l = absurd (omega (arith, l))
-same_default (x ∷ xs) zero a b l = refl
-same_default (x ∷ xs) (suc k) a b l = same_default xs k a b (omega (arith, l))
-
--- the pointer that was read is that of the first kept row
-pub first_read : (firsts : List Ptr) (w : ℕ) (p : Ptr) → w < length firsts → p ≡ get_or firsts w p → get_or firsts w null_ptr ≡ p
-first_read firsts w p low e = same_default firsts w null_ptr p low ∙ sym e
-
--- it may be compared
+-- that in the list of them may be compared
 pub first_near : (rows : List Row) (bs : List ℕ) (all : List Ptr) (rest : Ptr) (left : ℕ) (firsts : List Ptr) (w : ℕ) (p : Ptr) → IsStore rows bs all rest left firsts → get_or firsts w null_ptr ≡ p → IsNear p
 first_near rows bs all rest left firsts w p s e = subst IsNear e (kept_near rows s.depth w (s.kept w).0 (get_or firsts w null_ptr) (s.kept w).1)
 
@@ -356,6 +347,7 @@ has_kept rows bs all rest left firsts w p s low at some =
           | inl z ↦ inl z
           | inr r ↦ inr (rest_on rows rows' s.depth s.depth rest left r (away (place_of rest) (λ z. absurd (let a = r.apart in let b = k.deep in let c = ap s.depth z in omega (arith, a, b, c)))))
         ];
+        lengths = length-set firsts w k.next ∙ s.lengths;
         kept = λ v. elim (cases_eq v w) [
           | inl same ↦ (
             e,
@@ -464,6 +456,7 @@ kept rows rows' rows'' bs all rest left firsts w p q s place len pos i h low fir
       leads = t.leads;
       rest = rest_stays rows end s.depth depth' rest left s.rest
           (λ y sp some. let o = live_apart rows y n sp live in let a = retired_away n rows y o in (live_items mid n new y ∙ a.0, items_away mid n new y o ∙ a.1, at_away n (suc d) s.depth y o));
+      lengths = length-set firsts w p ∙ s.lengths;
       kept = λ v. elim (cases_eq v w) [
         | inl same ↦ (
           suc d,
@@ -616,6 +609,7 @@ carved rows rows' rows'' rows''' bs all p q left c firsts count s a few pos low 
         tiled = revived_tiled n bs mid' (tiled_alike bs mid mid' (items_alike mid n new new_length) (tiled_cut bs rows n c s.tiled (omega (arith, pos)) (omega (arith, words, low))));
         leads = s.leads;
         rest = inr rest';
+        lengths = s.lengths;
         kept = λ w. (
           (s.kept w).0,
           kept_on rows end s.depth depth' w (s.kept w).0 (get_or firsts w null_ptr) (s.kept w).1
@@ -671,6 +665,7 @@ grown rows rows' bs bs' all all' rest p left c firsts s start count none e f g =
           apart = at_here n 0 s.depth;
           inside = subst (λ (u : ℕ). u % 2 ^ 18 + c ≤ 2 ^ 18) (sym (place_is p start)) (first_fits (block_of p) c count);
         };
+        lengths = s.lengths;
         kept = λ w. ((s.kept w).0, kept_on rows new s.depth depth' w (s.kept w).0 (get_or firsts w null_ptr) (s.kept w).1 (λ y h sp l m u b. away y (no_words rows y n none l)));
       })),
       subst (λ (z : List Row). HaveSameWords (shown rows) (shown z)) (sym e) (λ m. elim (cases_eq m n) [
@@ -688,45 +683,20 @@ block_place p e = ap (λ (u : Ptr). block_at (place_of u)) e ∙ starts_block (b
 
 -- The pointers to the first kept rows, of which there are more
 
-take_whole : (n : ℕ) (xs : List Ptr) → length xs ≤ n → take n xs ≡ xs
-take_whole zero [] l = refl
-take_whole (suc n) [] l = refl
-take_whole zero (x ∷ xs) l = absurd (omega (arith, l))
-take_whole (suc n) (x ∷ xs) l = ap (λ (ys : List Ptr). x ∷ ys) (take_whole n xs (omega (arith, l)))
-
 none_among : (k w : ℕ) → get_or (replicate k null_ptr) w null_ptr ≡ null_ptr
 none_among zero w = refl
 none_among (suc k) zero = refl
 none_among (suc k) (suc w) = none_among k w
 
-none_behind : (xs : List Ptr) (k w : ℕ) → get_or (xs ++ replicate k null_ptr) w null_ptr ≡ get_or xs w null_ptr
-none_behind [] k w = none_among k w
-none_behind (x ∷ xs) k zero = refl
-none_behind (x ∷ xs) k (suc w) = none_behind xs k w
-
-more_firsts : (b : Bool) (n k : ℕ) (xs ys : List Ptr) → length xs ≤ n → ys ≡ (if b then take n xs ++ replicate k null_ptr else xs) → (w : ℕ) → get_or ys w null_ptr ≡ get_or xs w null_ptr
-more_firsts true n k xs ys l e w = ap (λ (zs : List Ptr). get_or zs w null_ptr) (e ∙ ap (λ (zs : List Ptr). zs ++ replicate k null_ptr) (take_whole n xs l)) ∙ none_behind xs k w
-more_firsts false n k xs ys l e w = ap (λ (zs : List Ptr). get_or zs w null_ptr) e
-
--- what holds holds on
-pub widened : (rows : List Row) (bs : List ℕ) (all : List Ptr) (rest : Ptr) (left : ℕ) (xs ys : List Ptr) (b : Bool) (n k : ℕ) (p : Ptr) → IsStore rows bs all rest left xs → length xs ≤ n → p ≡ null_ptr
-    → ys ≡ (if b then take n xs ++ replicate k p else xs) → IsStore rows bs all rest left ys
-widened rows bs all rest left xs ys b n k p s l null e = record {
-  depth = s.depth;
-  tiled = s.tiled;
-  leads = s.leads;
-  rest = s.rest;
-  kept = λ w. ((s.kept w).0, subst (AreKept rows s.depth w (s.kept w).0) (sym (more_firsts b n k xs ys l (e ∙ ap (λ (q : Ptr). if b then take n xs ++ replicate k q else xs) null) w)) (s.kept w).1);
-}
-
 -- A store without rows
-pub empty_store : (rows : List Row) (bs : List ℕ) (all : List Ptr) (p : Ptr) (firsts : List Ptr) → rows ≡ [] → bs ≡ [] → all ≡ [] → firsts ≡ [] → IsStore rows bs all p 0 firsts
+pub empty_store : (rows : List Row) (bs : List ℕ) (all : List Ptr) (p : Ptr) (firsts : List Ptr) → rows ≡ [] → bs ≡ [] → all ≡ [] → firsts ≡ replicate 1024 null_ptr → IsStore rows bs all p 0 firsts
 empty_store rows bs all p firsts no_rows no_blocks no_pointers none = record {
   depth = λ y. 0;
   tiled = subst (λ (z : List ℕ). AreTiled z rows) (sym no_blocks) no_rows;
   leads = subst (λ (z : List ℕ). LeadTo z all) (sym no_blocks) no_pointers;
   rest = inl refl;
-  kept = λ w. (0, ap (λ (z : List Ptr). get_or z w null_ptr) none ∙ none_among 0 w);
+  lengths = ap length none ∙ length-replicate 1024 null_ptr;
+  kept = λ w. (0, ap (λ (z : List Ptr). get_or z w null_ptr) none ∙ none_among 1024 w);
 }
 
 -- no row, no number

@@ -38,10 +38,11 @@ abbrev pub AreKept : List Row → Depths → ℕ → ℕ → Ptr → Type 0
 AreKept rows depth count zero p = p ≡ null_ptr
 AreKept rows depth count (suc d) p = (k : IsKept rows depth count d p) × AreKept rows depth count d k.next
 
--- the rows fill the blocks, and of each length those from its pointer on are kept
+-- the rows fill the blocks, and of each length below 1024 those from its pointer on are kept
 pub record IsStore (rows : List Row) (blocks : List ℕ) (all : List Ptr) (last : Ptr) (left : ℕ) (firsts : List Ptr) : Type 0 where
   pub depth : Depths
   pub tiled : AreTiled blocks rows
   pub leads : LeadTo blocks all
   pub rest : (left ≡ 0) ⊎ IsRest rows depth last left
+  pub lengths : length firsts ≡ 1024
   pub kept : (words : ℕ) → (d : ℕ) × AreKept rows depth words d (slice_index_or firsts words null_ptr)

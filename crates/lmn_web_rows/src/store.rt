@@ -12,6 +12,9 @@ use std::marker::Model;
 /// How many words a block has. The longest row fits into one.
 const BLOCK_WORDS: usize = 262_144;
 
+/// Only rows of fewer words are used again.
+const LENGTHS: usize = 1024;
+
 /// The half of a word that is the number of a row, which no other row has.
 pub const NUMBER: usize = 14;
 
@@ -19,14 +22,15 @@ pub const NUMBER: usize = 14;
 const LAST: u32 = 4_294_967_295;
 
 /// Rows, many of them side by side in one block. The memory of a row that is gone is used for the next one of its length, so that
-/// of each length there are never more rows in memory than there were at once. Each row has a number that no other one has.
+/// of each length below 1,024 words there are never more rows in memory than there were at once. Each row has a number that no other one has.
 pub struct Store {
     rows: Rows,
     blocks: Blocks,
     all: Vec<*mut u8>,
     rest: *mut u8,
     left: usize,
-    firsts: Vec<*mut u8>,
+    // The row that was kept last, of each length.
+    firsts: [*mut u8; LENGTHS],
     // How many rows were numbered: the number of the next one.
     count: u32,
     alloc: Global,
@@ -40,7 +44,7 @@ impl Model for Store {
 
     ghost view = { λ s. record { rows = shown s.rows.rows; left = s.left; count = s.count } };
 
-    ghost invariant = { λ s. IsStore s.rows.rows s.blocks.blocks s.all.items s.rest s.left s.firsts.items × AreNumbered s.rows.rows s.count };
+    ghost invariant = { λ s. IsStore s.rows.rows s.blocks.blocks s.all.items s.rest s.left s.firsts × AreNumbered s.rows.rows s.count };
 }
 
 impl Store {
@@ -54,7 +58,7 @@ impl Store {
             all: Vec::new(alloc),
             rest: nowhere(),
             left: 0,
-            firsts: Vec::new(alloc),
+            firsts: [nowhere(); LENGTHS],
             count: 0,
             alloc,
         }
@@ -100,7 +104,7 @@ impl Store {
         ensures { IsGone self.old.rows self.new.rows (place_of at) }
     {
         self.rows.retire(at);
-        if self.firsts.len() <= words {
+        if words >= LENGTHS {
             return;
         }
         let first = self.firsts[words];
@@ -114,7 +118,7 @@ impl Store {
         requires { NUMBER_WORD < words }
         ensures { MatchOption result (HaveSameWords self.old.rows self.new.rows) (λ p. IsStart p × IsMade self.old.rows self.new.rows (place_of p) words) }
     {
-        if self.firsts.len() <= words {
+        if words >= LENGTHS {
             return None;
         }
         let at = self.firsts[words];
@@ -136,20 +140,8 @@ impl Store {
         if self.count == LAST {
             return Err(AllocError);
         }
-        self.widen(words)?;
         self.provide(words)?;
         Ok(self.carve(words))
-    }
-
-    // There is a place for the first row of so many words that is kept.
-    fn widen(&mut self, words: usize) -> Result<(), AllocError>
-        requires { words < 2 ^ 18 }
-        ensures { self.new ≡ self.old }
-    {
-        if words < self.firsts.len() {
-            return Ok(());
-        }
-        self.firsts.resize(words + 1, nowhere())
     }
 
     // More than so many words of the last block weren't used yet.

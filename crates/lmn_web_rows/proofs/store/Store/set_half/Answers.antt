@@ -20,7 +20,7 @@ pub invariant_of-self : goal.invariant_of-self
 invariant_of-self c =
     let s = c.self.inside in let n = place_of c.args.at in let low = subst (λ (v : Stored). c.args.j / 2 < length (items_in v.rows n)) (sym c.self.view_is) c.requires.3 in
     let live = live_seen s.rows.rows n (let l = low in omega (arith, l)) in (
-      written s.rows.rows c.set_half.new.self.rows s.blocks.blocks s.all.items s.rest s.left s.firsts.items n (c.args.j / 2) (with_half (c.args.j % 2) c.args.n (get_or (items_in s.rows.rows n) (c.args.j / 2) blank)) c.self.invariant.0 low c.set_half.ensures,
+      written s.rows.rows c.set_half.new.self.rows s.blocks.blocks s.all.items s.rest s.left s.firsts n (c.args.j / 2) (with_half (c.args.j % 2) c.args.n (get_or (items_in s.rows.rows n) (c.args.j / 2) blank)) c.self.invariant.0 low c.set_half.ensures,
       half_numbers s.rows.rows c.set_half.new.self.rows s.count n c.args.j c.args.n c.self.invariant.1 live (subst (λ (is : List Item). c.args.j / 2 < length is) (row_same s.rows.rows n (c.args.j / 2) low) low) c.requires.2 c.set_half.ensures,
     )
 

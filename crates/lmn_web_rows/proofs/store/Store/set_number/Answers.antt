@@ -12,7 +12,7 @@ set_number-requires c =
 pub invariant_of-self : goal.invariant_of-self
 invariant_of-self c =
     let s = c.self.inside in let n = place_of c.args.at in let low = subst (λ (v : Stored). c.args.k < length (items_in v.rows n)) (sym c.self.view_is) c.requires.3 in (
-      written s.rows.rows c.set_number.new.self.rows s.blocks.blocks s.all.items s.rest s.left s.firsts.items n c.args.k (number c.args.n) c.self.invariant.0 low c.set_number.ensures,
+      written s.rows.rows c.set_number.new.self.rows s.blocks.blocks s.all.items s.rest s.left s.firsts n c.args.k (number c.args.n) c.self.invariant.0 low c.set_number.ensures,
       written_numbers s.rows.rows c.set_number.new.self.rows s.count n c.args.k (number c.args.n) c.self.invariant.1 (subst (λ (is : List Item). c.args.k < length is) (row_same s.rows.rows n c.args.k low) low) c.requires.2 c.set_number.ensures,
     )
 
