@@ -60,6 +60,10 @@ holds_there f m ks h k o there alive = elim o [ inl s ↦ subst (λ z. IsSome (f
 pub holds_more : (m : ℕ) (ks js : List ℕ) (h k : ℕ) → ((z : ℕ) → In z ks → In z js) → Holds m LEADERS ks h k → Holds m LEADERS js h k
 holds_more m ks js h k sub o = elim o [ inl s ↦ inl s | inr i ↦ inr (sub h i.0, i.1) ]
 
+-- it is none to a membrane
+pub holds_inner : (m : ℕ) (ks : List ℕ) (h k : ℕ) → Holds m LEADERS ks h k → (f : ℕ → Option HeldCell) (v : Option ℕ) (z : ℕ) → (In z ks → ⊥) → link_in (link_written f h k v) z EVEN ≡ link_in f z EVEN
+holds_inner m ks h k o f v z n = link_other f h k v z EVEN (λ e s. elim o [ inl x ↦ absurd (let d = x.1 in omega (arith, e, d)) | inr i ↦ n (subst (λ y. In y ks) (sym s) i.0) ])
+
 -- the touch of a cell that takes over the links of another
 pub touches_taken : (f g : ℕ → Option HeldCell) (m : ℕ) (xs : List ℕ) (p : ℕ × ℕ) → Touches f g m xs p → (h k x n : ℕ) → In n xs → Holds m LEADERS xs h k → Touches f (taken_over g h k x n) m xs p
 touches_taken f g m xs p t h k x n i o =
@@ -112,7 +116,16 @@ module _ (f : ℕ → Option HeldCell) (m : ℕ) (xs : List ℕ) (t : ClassTree)
   pub taken_place : (g : ℕ → Option HeldCell) (x n b j : ℕ) → j ≢ EVEN → j ≢ ODD → j ≢ LEADERS → link_in (taken_over g place.holder place.link x n) b j ≡ link_in g b j
   taken_place g x n b j e o z = taken_far g place.holder place.link x n b j e o (holds_far m xs place.holder place.link j holds_atoms e o z)
 
-  -- the first atom of the class
+  -- and those by which other atoms lead to the membrane
+  pub place_inner : (g : ℕ → Option HeldCell) (v : Option ℕ) (z : ℕ) → (In z (leaders t) → ⊥) → link_in (link_written g place.holder place.link v) z EVEN ≡ link_in g z EVEN
+  place_inner g v z n = holds_inner m (leaders t) place.holder place.link holds_leaders g v z n
+
+  pub taken_inner : (g : ℕ → Option HeldCell) (x n z : ℕ) → z ≢ n → (In z (leaders t) → ⊥) → link_in (taken_over g place.holder place.link x n) z EVEN ≡ link_in g z EVEN
+  taken_inner g x n z d o =
+      let g1 = link_written g n EVEN (link_in g x EVEN) in
+      place_inner (link_written g1 n ODD (link_in g x ODD)) (Some n) z o ∙ link_by g1 n ODD (link_in g x ODD) z EVEN d ∙ link_by g n EVEN (link_in g x EVEN) z EVEN d
+
+  -- the last atom of the class
   pub leader_in : (l : ℕ) → top place.tree ≡ Some l → In l (leaders t) × (is_key (key_in f l) p ≡ true)
   leader_in l e = let w = fork_of place.tree l e in (tree_in l (subst (λ u. In l (leaders u)) (sym w.2) (inl refl)), at.own l e)
 

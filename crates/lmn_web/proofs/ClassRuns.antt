@@ -1,19 +1,20 @@
 -- What each write to the links of classes does to the classes of a membrane.
 use Rattle.std.proofs.Common.{◌≡◌, ◌≢◌, ◌⊎◌, ℕ, suc, Bool, true, false, not, List, [], ◌∷◌, ◌++◌, length, Option, Some, None, IsSome, refl, sym, ap, subst, ◌∙◌, inl, inr, arith}
 use Rattle.lmn_base.specs.Lists.{In}
-use Rattle.lmn_base.proofs.Lists.{in_either}
+use Rattle.lmn_base.proofs.Lists.{in_either, in_snoc}
+use Rattle.std.proofs.lemmas.Bool.{cases_eq}
 use Rattle.lmn_store_heap.specs.Lists.{Distinct}
-use Rattle.lmn_store_heap.proofs.ListLemmas.{each_in, each_of, in_left, in_right, apart}
+use Rattle.lmn_store_heap.proofs.ListLemmas.{in_left, in_right, apart}
 use Rattle.lmn_web_cells.specs.Cells.{HeldCell, links_of, HaveLinks}
-use Rattle.lmn_web_cells.specs.Runs.{Node, RunsThrough, link_in}
+use Rattle.lmn_web_cells.specs.Runs.{link_in}
 use Rattle.lmn_web_cells.proofs.LineLemmas.{link_other}
-use Rattle.lmn_web_cells.proofs.RunLemmas.{Left, Joined, Between, ends, joins_behind, leaves_behind, inserts_behind, relink_start, split, before_behind, prev_in, after_in}
-use Rattle.lmn_web.specs.Classes.{Touches, ClassTree, Bare, Fork, leaders, top, ClassPlace, IsTree, AreBeside, IsSorted, is_odd, rest_at, class_node, key_in, is_key, of_class, RunsRound, AreClassed, place_in, link_written, taken_over, begun, lengthened, put_between, put_first, closed, shortened, passed, dropped}
+use Rattle.lmn_web.specs.Classes.{Touches, ClassTree, Bare, Fork, leaders, top, ClassPlace, IsTree, AreBeside, IsSorted, is_odd, rest_at, class_node, key_in, is_key, of_class, Linked, IsRing, AreClassed, place_in, link_written, taken_over, begun, lengthened, put_between, put_inside, closed, shortened, dropped}
 use Rattle.lmn_web_cells.specs.Links.{CLASS_NEXT, CLASS_PREV, EVEN, ODD, LEADERS}
-use Rattle.lmn_web.proofs.Reclassing.{key_same, key_true, run_head, reclassed}
+use Rattle.lmn_web.proofs.Reclassing.{key_same, key_true, nothing_in, reclassed}
+use Rattle.lmn_web.proofs.Rings.{PutsBetween, ClosesUp, linked_frame, linked_prev, put_linked, put_last, close_linked, close_last, ring_last, ring_first, ring_more, ring_less}
 use Rattle.lmn_web.proofs.ClassTrees.{Holds, Hole, forked, side, side_is, sides_differ, not_both, in_forked, top_forked, forked_sorted, sorted_forked, forked_tree, key_differs, tree_frame, sorted_apart, below_differs, beside_not}
 use Rattle.lmn_web.proofs.ClassWrites.{kept, length_kept, touches_none, touches_own, touches_tree, touches_keys, touches_there}
-use Rattle.lmn_web.proofs.ClassPlaces.{link_at, link_far, link_by, bare_of, sorted_top, holds_small, holds_there, holds_more, touches_taken, at, outer_in, tree_in, holds_atoms, link_small, place_far, taken_place, leader_in, fill_stay, fill_were, fill_sorted, fill_heads, taken_tree}
+use Rattle.lmn_web.proofs.ClassPlaces.{link_at, link_far, link_by, bare_of, sorted_top, holds_small, holds_there, holds_more, holds_inner, touches_taken, at, outer_in, tree_in, holds_atoms, link_small, place_far, place_inner, taken_place, taken_inner, leader_in, fill_stay, fill_were, fill_sorted, fill_heads, taken_tree}
 use Rattle.lmn_store_heap.proofs.Filters.{in_filter, distinct_filter}
 
 -- no link to other classes is one of a class
@@ -24,15 +25,6 @@ not_side j (inr (inr e)) (inl s) = absurd (omega (arith, e, s))
 not_side j (inl e) (inr s) = absurd (omega (arith, e, s))
 not_side j (inr (inl e)) (inr s) = absurd (omega (arith, e, s))
 not_side j (inr (inr e)) (inr s) = absurd (omega (arith, e, s))
-
--- what stands before a cell of a class is one of the class
-pub prev_among : (h : ℕ → Node) (first : Option ℕ) (us : List ℕ) (d : ℕ) (vs : List ℕ) (last : Option ℕ) → RunsThrough h last first (us ++ (d ∷ vs)) last None → (q : ℕ) → (h d).prev ≡ Some q → In q (us ++ (d ∷ vs))
-prev_among h first [] d vs last r q e = before_behind h last first d vs last None q r (sym r.1 ∙ e)
-prev_among h first (u ∷ us) d vs last r q e = in_left q (u ∷ us) (d ∷ vs) (prev_in h last first u us d vs last r q e).0
-
--- what stands behind a cell of a run stands in the part behind it
-pub next_in_run : (h : ℕ → Node) (before first : Option ℕ) (us : List ℕ) (d : ℕ) (vs : List ℕ) (last : Option ℕ) → RunsThrough h before first (us ++ (d ∷ vs)) last None → (q : ℕ) → (h d).next ≡ Some q → In q vs
-next_in_run h before first us d vs last r q e = let s = split h before first us (d ∷ vs) last None r in after_in h (Some d) (h d).next vs last q s.3.2 e
 
 module _ (f : ℕ → Option HeldCell) (m c : ℕ) (xs : List ℕ) (t : ClassTree) (have : HaveLinks f) (old : AreClassed f m xs t) (alive : (z : ℕ) → In z xs → IsSome (f z)) (distinct : Distinct xs) (there_m : IsSome (f m)) (there_c : IsSome (f c)) (no_m : In m xs → ⊥) (not_m : c ≢ m) where
   abbrev p : ℕ × ℕ
@@ -51,11 +43,19 @@ module _ (f : ℕ → Option HeldCell) (m c : ℕ) (xs : List ℕ) (t : ClassTre
   zs_once = distinct_filter (λ a. is_key (key_in f a) p) xs distinct
 
   -- the leader of the class
-  lead_key : (l : ℕ) → In l ls → is_key (key_in f l) p ≡ true → RunsRound f l zs
-  lead_key l i e = subst (λ q. RunsRound f l (of_class f q xs)) (key_true (key_in f l) p e) (old.runs l i)
+  lead_key : (l : ℕ) → In l ls → is_key (key_in f l) p ≡ true → IsRing f l zs
+  lead_key l i e = subst (λ q. IsRing f l (of_class f q xs)) (key_true (key_in f l) p e) (old.rings l i)
 
   lead_one : (j l : ℕ) → In j ls → In l ls → is_key (key_in f j) p ≡ true → is_key (key_in f l) p ≡ true → j ≡ l
   lead_one j l a b d e = sorted_apart f 0 t old.sorted j l a b (key_true (key_in f j) p d ∙ sym (key_true (key_in f l) p e))
+
+  -- each other one leads to the membrane
+  own_inner : (z : ℕ) → In z zs → (In z ls → ⊥) → link_in f z EVEN ≡ Some m
+  own_inner z i n = old.inner z (zs_in z i).0 n
+
+  -- what is of another class is another cell
+  not_own : (z : ℕ) → is_key (key_in f z) p ≡ false → (a : ℕ) → is_key (key_in f a) p ≡ true → z ≢ a
+  not_own z e a o s = let w : true ≡ false = sym o ∙ ap (λ u. is_key (key_in f u) p) (sym s) ∙ e in absurd cc
 
   -- A class begins
 
@@ -67,7 +67,7 @@ module _ (f : ℕ → Option HeldCell) (m c : ℕ) (xs : List ℕ) (t : ClassTre
     kb = (place_in f p m t).link
 
     abbrev b1 : ℕ → Option HeldCell
-    b1 = link_written f c CLASS_NEXT None
+    b1 = link_written f c CLASS_NEXT (Some c)
 
     abbrev b2 : ℕ → Option HeldCell
     b2 = link_written b1 c CLASS_PREV (Some c)
@@ -83,7 +83,7 @@ module _ (f : ℕ → Option HeldCell) (m c : ℕ) (xs : List ℕ) (t : ClassTre
 
     touches_b5 : Touches f b5 m (c ∷ xs) p
     touches_b5 = touches_tree f b4 m (c ∷ xs) p (touches_tree f b2 m (c ∷ xs) p (touches_own f b1 m (c ∷ xs) p (touches_own f f m (c ∷ xs) p (touches_none f m (c ∷ xs) p)
-        c CLASS_NEXT None (inl refl) (key_same p) (omega arith)) c CLASS_PREV (Some c) (inl refl) (key_same p) (omega arith)) c EVEN None (inr (inl refl, inl refl))) c ODD None (inr (inl refl, inr refl))
+        c CLASS_NEXT (Some c) (inl refl) (key_same p) (omega arith)) c CLASS_PREV (Some c) (inl refl) (key_same p) (omega arith)) c EVEN None (inr (inl refl, inl refl))) c ODD None (inr (inl refl, inr refl))
 
     -- what is left as it was
     pub begun_touches : Touches f b6 m (c ∷ xs) p
@@ -93,7 +93,7 @@ module _ (f : ℕ → Option HeldCell) (m c : ℕ) (xs : List ℕ) (t : ClassTre
     there_b z e = touches_there f b6 m (c ∷ xs) p begun_touches z e
 
     len1 : length (links_of (b1 c)) ≡ 8
-    len1 = length_kept f c CLASS_NEXT None c ∙ have c there_c
+    len1 = length_kept f c CLASS_NEXT (Some c) c ∙ have c there_c
 
     len2 : length (links_of (b2 c)) ≡ 8
     len2 = length_kept b1 c CLASS_PREV (Some c) c ∙ len1
@@ -104,8 +104,8 @@ module _ (f : ℕ → Option HeldCell) (m c : ℕ) (xs : List ℕ) (t : ClassTre
     to_b2 : (j : ℕ) → j ≢ EVEN → j ≢ ODD → j ≢ LEADERS → link_in b6 c j ≡ link_in b2 c j
     to_b2 j x y z = place_far f m xs t old no_m p b5 (Some c) c j x y z ∙ link_far b4 c ODD None c j y ∙ link_far b2 c EVEN None c j x
 
-    c_next : link_in b6 c CLASS_NEXT ≡ None
-    c_next = to_b2 CLASS_NEXT (λ e. absurd (omega (arith, e))) (λ e. absurd (omega (arith, e))) (λ e. absurd (omega (arith, e))) ∙ link_far b1 c CLASS_PREV (Some c) c CLASS_NEXT (λ e. absurd (omega (arith, e))) ∙ link_at f c CLASS_NEXT None (have c there_c) (omega arith)
+    c_next : link_in b6 c CLASS_NEXT ≡ Some c
+    c_next = to_b2 CLASS_NEXT (λ e. absurd (omega (arith, e))) (λ e. absurd (omega (arith, e))) (λ e. absurd (omega (arith, e))) ∙ link_far b1 c CLASS_PREV (Some c) c CLASS_NEXT (λ e. absurd (omega (arith, e))) ∙ link_at f c CLASS_NEXT (Some c) (have c there_c) (omega arith)
 
     c_prev : link_in b6 c CLASS_PREV ≡ Some c
     c_prev = to_b2 CLASS_PREV (λ e. absurd (omega (arith, e))) (λ e. absurd (omega (arith, e))) (λ e. absurd (omega (arith, e))) ∙ link_at b1 c CLASS_PREV (Some c) len1 (omega arith)
@@ -131,7 +131,7 @@ module _ (f : ℕ → Option HeldCell) (m c : ℕ) (xs : List ℕ) (t : ClassTre
         away : (b j : ℕ) → Holds m LEADERS (at f m xs t old no_m p).hole.outer b j → (b ≡ hb → j ≡ kb → ⊥) → link_in b6 b j ≡ link_in f b j
         away b j o n =
             let d : b ≢ c = (λ e. elim o [ inl s ↦ not_m (sym e ∙ s.0) | inr i ↦ no_outer (subst (λ z. In z (at f m xs t old no_m p).hole.outer) e i.0) ]) in
-            link_other b5 hb kb (Some c) b j (λ s e. n e s) ∙ link_by b4 c ODD None b j d ∙ link_by b2 c EVEN None b j d ∙ link_by b1 c CLASS_PREV (Some c) b j d ∙ link_by f c CLASS_NEXT None b j d
+            link_other b5 hb kb (Some c) b j (λ s e. n e s) ∙ link_by b4 c ODD None b j d ∙ link_by b2 c EVEN None b j d ∙ link_by b1 c CLASS_PREV (Some c) b j d ∙ link_by f c CLASS_NEXT (Some c) b j d
 
     none_there : (z : ℕ) → In z (leaders (place_in f p m t).tree) → ⊥
     none_there z i = subst (λ u. In z (leaders u)) (bare_of (place_in f p m t).tree none) i
@@ -151,117 +151,16 @@ module _ (f : ℕ → Option HeldCell) (m c : ℕ) (xs : List ℕ) (t : ClassTre
       were = fill_were f m xs t old no_m p (Fork c Bare Bare) (λ z _ i. absurd (none_there z i)) (λ z e i. absurd (no_other z e i));
       heads = fill_heads f m xs t old no_m p (Fork c Bare Bare) (Some c) (λ z e i. elim i [ inl s ↦ ap Some s | inr j ↦ absurd j ]);
       headed = λ l e. (let s : c ≡ l = cc in ((at f m xs t old no_m p).hole.ins (Fork c Bare Bare) l (inl s), ap (λ u. is_key (key_in f u) p) (sym s) ∙ key_same p));
-      run = λ l e. (let s : c ≡ l = cc in subst (λ us. RunsRound b6 l us) (sym alone) (subst (λ z. RunsRound b6 z (c ∷ [])) s (refl, refl, (c_next, c_prev))));
+      ring = λ l e. (let s : c ≡ l = cc in subst (λ us. IsRing b6 l us) (sym alone) (subst (λ z. IsRing b6 z (c ∷ [])) s ((c_next, c_prev, tt), [], refl)));
       none = λ e. absurd cc;
+      kept = λ z e n. (let d : z ≢ c = (λ s. no_other z e (inl (sym s))) in
+          place_inner f m xs t old no_m p b5 (Some c) z n ∙ link_by b4 c ODD None z EVEN d ∙ link_by b2 c EVEN None z EVEN d ∙ link_by b1 c CLASS_PREV (Some c) z EVEN d ∙ link_by f c CLASS_NEXT (Some c) z EVEN d);
+      inner = λ z i n. absurd (n ((at f m xs t old no_m p).hole.ins (Fork c Bare Bare) z (subst (λ us. In z us) alone i)));
     }
 
-  -- A class gets longer
+  -- An atom comes between two neighbours of its class
 
-  module _ (xs' : List ℕ) (l q : ℕ) (lists : (r : ℕ × ℕ) → is_key r p ≡ false → of_class f r xs' ≡ of_class f r xs) (longer : of_class f p xs' ≡ zs ++ c ∷ []) (fresh : In c xs → ⊥) (in_l : In l ls) (key_l : is_key (key_in f l) p ≡ true) (last : link_in f l CLASS_PREV ≡ Some q) where
-    abbrev l1 : ℕ → Option HeldCell
-    l1 = link_written f c CLASS_NEXT None
-
-    abbrev l2 : ℕ → Option HeldCell
-    l2 = link_written l1 c CLASS_PREV (Some q)
-
-    abbrev l3 : ℕ → Option HeldCell
-    l3 = link_written l2 q CLASS_NEXT (Some c)
-
-    abbrev l4 : ℕ → Option HeldCell
-    l4 = lengthened f l q c
-
-    run_l : RunsThrough (class_node f) (Some q) (Some l) zs (Some q) None
-    run_l = subst (λ o. RunsThrough (class_node f) o (Some l) zs o None) last (lead_key l in_l key_l)
-
-    -- those behind the first
-    abbrev head_l : (ys : List ℕ) × (zs ≡ l ∷ ys)
-    head_l = run_head (class_node f) (Some q) l zs (Some q) run_l
-
-    abbrev tail_l : List ℕ
-    tail_l = head_l.0
-
-    run_ys : RunsThrough (class_node f) (Some q) (Some l) (l ∷ tail_l) (Some q) None
-    run_ys = subst (λ us. RunsThrough (class_node f) (Some q) (Some l) us (Some q) None) head_l.1 run_l
-
-    once_ys : Distinct (l ∷ tail_l)
-    once_ys = subst Distinct head_l.1 zs_once
-
-    fresh_ys : In c (l ∷ tail_l) → ⊥
-    fresh_ys i = fresh (zs_in c (subst (λ us. In c us) (sym head_l.1) i)).0
-
-    q_in : In q zs
-    q_in = subst (λ us. In q us) (sym head_l.1) (before_behind (class_node f) (Some q) (Some l) l tail_l (Some q) None q run_ys refl)
-
-    not_q : c ≢ q
-    not_q e = fresh (subst (λ u. In u xs) (sym e) (zs_in q q_in).0)
-
-    -- what is left as it was
-    pub longer_touches : Touches f l4 m (c ∷ xs) p
-    longer_touches = touches_own f l3 m (c ∷ xs) p (touches_own f l2 m (c ∷ xs) p (touches_own f l1 m (c ∷ xs) p (touches_own f f m (c ∷ xs) p (touches_none f m (c ∷ xs) p)
-        c CLASS_NEXT None (inl refl) (key_same p) (omega arith)) c CLASS_PREV (Some q) (inl refl) (key_same p) (omega arith)) q CLASS_NEXT (Some c) (inr (zs_in q q_in).0) (zs_in q q_in).1 (omega arith))
-        l CLASS_PREV (Some c) (inr (old.inside l in_l)) key_l (omega arith)
-
-    len_q : length (links_of (l2 q)) ≡ 8
-    len_q = length_kept l1 c CLASS_PREV (Some q) q ∙ length_kept f c CLASS_NEXT None q ∙ have q (alive q (zs_in q q_in).0)
-
-    len_l : length (links_of (l3 l)) ≡ 8
-    len_l = length_kept l2 q CLASS_NEXT (Some c) l ∙ length_kept l1 c CLASS_PREV (Some q) l ∙ length_kept f c CLASS_NEXT None l ∙ have l (alive l (old.inside l in_l))
-
-    end_joined : Joined (class_node f) (class_node l3) c (Some q)
-    end_joined = record {
-      here = λ t. record {
-        prev = (link_far l2 q CLASS_NEXT (Some c) c CLASS_PREV (λ e. absurd (omega (arith, e))) ∙ link_at l1 c CLASS_PREV (Some q) (length_kept f c CLASS_NEXT None c ∙ have c there_c) (omega arith)) t;
-        next = (link_by l2 q CLASS_NEXT (Some c) c CLASS_NEXT not_q ∙ link_far l1 c CLASS_PREV (Some q) c CLASS_NEXT (λ e. absurd (omega (arith, e))) ∙ link_at f c CLASS_NEXT None (have c there_c) (omega arith)) t;
-      };
-      before = λ z n e t. record {
-        prev = (link_far l2 q CLASS_NEXT (Some c) z CLASS_PREV (λ e. absurd (omega (arith, e))) ∙ link_by l1 c CLASS_PREV (Some q) z CLASS_PREV n ∙ link_far f c CLASS_NEXT None z CLASS_PREV (λ e. absurd (omega (arith, e)))) t;
-        next = (ap (λ u. link_in l3 u CLASS_NEXT) (let s : z ≡ q = cc in s) ∙ link_at l2 q CLASS_NEXT (Some c) len_q (omega arith)) t;
-      };
-      other = λ z n d t. record {
-        prev = (link_far l2 q CLASS_NEXT (Some c) z CLASS_PREV (λ e. absurd (omega (arith, e))) ∙ link_by l1 c CLASS_PREV (Some q) z CLASS_PREV n ∙ link_far f c CLASS_NEXT None z CLASS_PREV (λ e. absurd (omega (arith, e)))) t;
-        next = (link_by l2 q CLASS_NEXT (Some c) z CLASS_NEXT (λ s. d (ap Some (sym s))) ∙ link_far l1 c CLASS_PREV (Some q) z CLASS_NEXT (λ e. absurd (omega (arith, e))) ∙ link_by f c CLASS_NEXT None z CLASS_NEXT n) t;
-      };
-    }
-
-    -- with it at the end, and then with it before the first
-    run_3 : RunsThrough (class_node l3) (Some q) (Some l) (l ∷ (tail_l ++ c ∷ [])) (Some c) None
-    run_3 = joins_behind (class_node f) (class_node l3) (Some q) (Some l) (Some q) l tail_l c end_joined once_ys fresh_ys run_ys
-
-    not_lead : (z : ℕ) → In z (tail_l ++ c ∷ []) → z ≢ l
-    not_lead z i e = elim (in_either z tail_l (c ∷ []) i) [ inl j ↦ each_in (λ u. l ≢ u) tail_l z once_ys.0 j (sym e) | inr j ↦ elim j [ inl s ↦ fresh (subst (λ u. In u xs) (sym (s ∙ e)) (old.inside l in_l)) | inr k ↦ k ] ]
-
-    run_4 : RunsThrough (class_node l4) (Some c) (Some l) (l ∷ (tail_l ++ c ∷ [])) (Some c) None
-    run_4 = relink_start (class_node l3) (class_node l4) (Some q) (Some l) l (tail_l ++ c ∷ []) (Some c) None (Some c) run_3
-        (λ t. record { prev = link_at l3 l CLASS_PREV (Some c) len_l (omega arith) t; next = link_far l3 l CLASS_PREV (Some c) l CLASS_NEXT (λ e. absurd (omega (arith, e))) t })
-        (each_of _ (tail_l ++ c ∷ []) (λ z i t. record { prev = link_by l3 l CLASS_PREV (Some c) z CLASS_PREV (not_lead z i) t; next = link_far l3 l CLASS_PREV (Some c) z CLASS_NEXT (λ e. absurd (omega (arith, e))) t }))
-
-    run_round : RunsRound l4 l (zs ++ c ∷ [])
-    run_round = subst (λ us. RunsRound l4 l (us ++ c ∷ [])) (sym head_l.1) (subst (λ o. RunsThrough (class_node l4) o (Some l) (l ∷ (tail_l ++ c ∷ [])) o None) (sym (link_at l3 l CLASS_PREV (Some c) len_l (omega arith))) run_4)
-
-    -- the classes then
-    pub longer_classed : AreClassed l4 m xs' t
-    longer_classed = reclassed f l4 m xs t old p xs' t (Some l) record {
-      keys = touches_keys f l4 m (c ∷ xs) p longer_touches;
-      lists = lists;
-      nodes = λ z _ e. longer_touches.nodes z e;
-      tree = subst (λ o. IsTree l4 o t) (sym (same m LEADERS (λ e. absurd (omega (arith, e))) (λ e. absurd (omega (arith, e)))))
-          (tree_frame f l4 (link_in f m LEADERS) t (λ k i. (same k EVEN (λ e. absurd (omega (arith, e))) (λ e. absurd (omega (arith, e))), same k ODD (λ e. absurd (omega (arith, e))) (λ e. absurd (omega (arith, e))))) (touches_there f l4 m (c ∷ xs) p longer_touches) old.tree);
-      sorted = old.sorted;
-      stay = λ k i _. i;
-      were = λ k i _. i;
-      heads = λ k i e. ap Some (lead_one l k in_l i key_l e);
-      headed = λ k e. (let s : l ≡ k = cc in (subst (λ u. In u ls) s in_l, ap (λ u. is_key (key_in f u) p) (sym s) ∙ key_l));
-      run = λ k e. (let s : l ≡ k = cc in subst (λ us. RunsRound l4 k us) (sym longer) (subst (λ u. RunsRound l4 u (zs ++ c ∷ [])) s run_round));
-      none = λ e. absurd cc;
-    }
-      where
-        same : (b j : ℕ) → j ≢ CLASS_NEXT → j ≢ CLASS_PREV → link_in l4 b j ≡ link_in f b j
-        same b j x y = link_far l3 l CLASS_PREV (Some c) b j y ∙ link_far l2 q CLASS_NEXT (Some c) b j x ∙ link_far l1 c CLASS_PREV (Some q) b j y ∙ link_far f c CLASS_NEXT None b j x
-
-  -- An atom comes between two of its class
-
-  module _ (xs' us vs : List ℕ) (l pr d : ℕ) (lists : (r : ℕ × ℕ) → is_key r p ≡ false → of_class f r xs' ≡ of_class f r xs) (cut : zs ≡ l ∷ (us ++ (d ∷ vs))) (inside : of_class f p xs' ≡ l ∷ (us ++ (c ∷ d ∷ vs))) (fresh : In c xs → ⊥)
-      (in_l : In l ls) (key_l : is_key (key_in f l) p ≡ true) (prev : link_in f d CLASS_PREV ≡ Some pr) where
+  module _ (pr d : ℕ) (pr_zs : In pr zs) (d_zs : In d zs) (fresh : In c xs → ⊥) where
     abbrev i1 : ℕ → Option HeldCell
     i1 = link_written f c CLASS_NEXT (Some d)
 
@@ -274,236 +173,171 @@ module _ (f : ℕ → Option HeldCell) (m c : ℕ) (xs : List ℕ) (t : ClassTre
     abbrev i4 : ℕ → Option HeldCell
     i4 = put_between f pr d c
 
-    run_i : RunsRound f l (l ∷ (us ++ (d ∷ vs)))
-    run_i = subst (λ ws. RunsRound f l ws) cut (lead_key l in_l key_l)
-
-    once_i : Distinct (l ∷ (us ++ (d ∷ vs)))
-    once_i = subst Distinct cut zs_once
-
-    pr_us : In pr (l ∷ us)
-    pr_us = (prev_in (class_node f) (link_in f l CLASS_PREV) (Some l) l us d vs (link_in f l CLASS_PREV) run_i pr prev).0
-
-    pr_zs : In pr zs
-    pr_zs = subst (λ ws. In pr ws) (sym cut) (in_left pr (l ∷ us) (d ∷ vs) pr_us)
-
-    d_zs : In d zs
-    d_zs = subst (λ ws. In d ws) (sym cut) (in_right d (l ∷ us) (d ∷ vs) (inl refl))
-
     c_not : (z : ℕ) → In z zs → c ≢ z
     c_not z i e = fresh (subst (λ u. In u xs) (sym e) (zs_in z i).0)
 
-    pr_not_d : pr ≢ d
-    pr_not_d = apart (l ∷ us) (d ∷ vs) pr d once_i pr_us (inl refl)
-
-    l_not_d : l ≢ d
-    l_not_d = apart (l ∷ us) (d ∷ vs) l d once_i (inl refl) (inl refl)
-
-    l_not_c : l ≢ c
-    l_not_c e = fresh (subst (λ u. In u xs) e (old.inside l in_l))
-
     -- what is left as it was
-    pub inside_touches : Touches f i4 m (c ∷ xs) p
-    inside_touches = touches_own f i3 m (c ∷ xs) p (touches_own f i2 m (c ∷ xs) p (touches_own f i1 m (c ∷ xs) p (touches_own f f m (c ∷ xs) p (touches_none f m (c ∷ xs) p)
+    put_touches : Touches f i4 m (c ∷ xs) p
+    put_touches = touches_own f i3 m (c ∷ xs) p (touches_own f i2 m (c ∷ xs) p (touches_own f i1 m (c ∷ xs) p (touches_own f f m (c ∷ xs) p (touches_none f m (c ∷ xs) p)
         c CLASS_NEXT (Some d) (inl refl) (key_same p) (omega arith)) c CLASS_PREV (Some pr) (inl refl) (key_same p) (omega arith)) pr CLASS_NEXT (Some c) (inr (zs_in pr pr_zs).0) (zs_in pr pr_zs).1 (omega arith))
         d CLASS_PREV (Some c) (inr (zs_in d d_zs).0) (zs_in d d_zs).1 (omega arith)
+
+    put_same : (b j : ℕ) → j ≢ CLASS_NEXT → j ≢ CLASS_PREV → link_in i4 b j ≡ link_in f b j
+    put_same b j x y = link_far i3 d CLASS_PREV (Some c) b j y ∙ link_far i2 pr CLASS_NEXT (Some c) b j x ∙ link_far i1 c CLASS_PREV (Some pr) b j y ∙ link_far f c CLASS_NEXT (Some d) b j x
+
+    put_even : (b : ℕ) → link_in i4 b EVEN ≡ link_in f b EVEN
+    put_even b = put_same b EVEN (λ e. absurd (omega (arith, e))) (λ e. absurd (omega (arith, e)))
 
     long_i : (z : ℕ) → IsSome (f z) → length (links_of (i2 z)) ≡ 8
     long_i z t = length_kept i1 c CLASS_PREV (Some pr) z ∙ length_kept f c CLASS_NEXT (Some d) z ∙ have z t
 
-    z_prev : (z : ℕ) → z ≢ c → z ≢ d → link_in i4 z CLASS_PREV ≡ link_in f z CLASS_PREV
-    z_prev z n w = link_by i3 d CLASS_PREV (Some c) z CLASS_PREV w ∙ link_far i2 pr CLASS_NEXT (Some c) z CLASS_PREV (λ e. absurd (omega (arith, e))) ∙ link_by i1 c CLASS_PREV (Some pr) z CLASS_PREV n ∙ link_far f c CLASS_NEXT (Some d) z CLASS_PREV (λ e. absurd (omega (arith, e)))
-
-    z_next : (z : ℕ) → z ≢ c → z ≢ pr → link_in i4 z CLASS_NEXT ≡ link_in f z CLASS_NEXT
-    z_next z n w = link_far i3 d CLASS_PREV (Some c) z CLASS_NEXT (λ e. absurd (omega (arith, e))) ∙ link_by i2 pr CLASS_NEXT (Some c) z CLASS_NEXT w ∙ link_far i1 c CLASS_PREV (Some pr) z CLASS_NEXT (λ e. absurd (omega (arith, e))) ∙ link_by f c CLASS_NEXT (Some d) z CLASS_NEXT n
-
-    pr_next : link_in i4 pr CLASS_NEXT ≡ Some c
-    pr_next = link_far i3 d CLASS_PREV (Some c) pr CLASS_NEXT (λ e. absurd (omega (arith, e))) ∙ link_at i2 pr CLASS_NEXT (Some c) (long_i pr (alive pr (zs_in pr pr_zs).0)) (omega arith)
-
-    inside_between : Between (class_node f) (class_node i4) c (link_in f d CLASS_PREV) d
-    inside_between = record {
-      here = λ t. record {
-        prev = (link_by i3 d CLASS_PREV (Some c) c CLASS_PREV (c_not d d_zs) ∙ link_far i2 pr CLASS_NEXT (Some c) c CLASS_PREV (λ e. absurd (omega (arith, e))) ∙ link_at i1 c CLASS_PREV (Some pr) (length_kept f c CLASS_NEXT (Some d) c ∙ have c there_c) (omega arith) ∙ sym prev) t;
-        next = (link_far i3 d CLASS_PREV (Some c) c CLASS_NEXT (λ e. absurd (omega (arith, e))) ∙ link_by i2 pr CLASS_NEXT (Some c) c CLASS_NEXT (c_not pr pr_zs) ∙ link_far i1 c CLASS_PREV (Some pr) c CLASS_NEXT (λ e. absurd (omega (arith, e)))
-            ∙ link_at f c CLASS_NEXT (Some d) (have c there_c) (omega arith)) t;
-      };
-      before = λ z n e t. (let s : ◌≡◌ {A = Option ℕ} (Some z) (Some pr) = sym e ∙ prev in let r : z ≡ pr = cc in record { prev = z_prev z n (λ w. pr_not_d (sym r ∙ w)) t; next = (ap (λ u. link_in i4 u CLASS_NEXT) r ∙ pr_next) t });
-      behind = λ t. record { prev = link_at i3 d CLASS_PREV (Some c) (length_kept i2 pr CLASS_NEXT (Some c) d ∙ long_i d (alive d (zs_in d d_zs).0)) (omega arith) t; next = z_next d (λ e. c_not d d_zs (sym e)) (λ e. pr_not_d (sym e)) t };
-      other = λ z n e w t. record { prev = z_prev z n w t; next = z_next z n (λ s. e (prev ∙ ap Some (sym s))) t };
+    -- it is linked with the two
+    put_node : PutsBetween (class_node f) (class_node i4) pr d c
+    put_node = record {
+      own_next = link_far i3 d CLASS_PREV (Some c) c CLASS_NEXT (λ e. absurd (omega (arith, e))) ∙ link_by i2 pr CLASS_NEXT (Some c) c CLASS_NEXT (c_not pr pr_zs) ∙ link_far i1 c CLASS_PREV (Some pr) c CLASS_NEXT (λ e. absurd (omega (arith, e)))
+          ∙ link_at f c CLASS_NEXT (Some d) (have c there_c) (omega arith);
+      own_prev = link_by i3 d CLASS_PREV (Some c) c CLASS_PREV (c_not d d_zs) ∙ link_far i2 pr CLASS_NEXT (Some c) c CLASS_PREV (λ e. absurd (omega (arith, e))) ∙ link_at i1 c CLASS_PREV (Some pr) (length_kept f c CLASS_NEXT (Some d) c ∙ have c there_c) (omega arith);
+      before = link_far i3 d CLASS_PREV (Some c) pr CLASS_NEXT (λ e. absurd (omega (arith, e))) ∙ link_at i2 pr CLASS_NEXT (Some c) (long_i pr (alive pr (zs_in pr pr_zs).0)) (omega arith);
+      behind = link_at i3 d CLASS_PREV (Some c) (length_kept i2 pr CLASS_NEXT (Some c) d ∙ long_i d (alive d (zs_in d d_zs).0)) (omega arith);
+      nexts = λ z n w. link_far i3 d CLASS_PREV (Some c) z CLASS_NEXT (λ e. absurd (omega (arith, e))) ∙ link_by i2 pr CLASS_NEXT (Some c) z CLASS_NEXT w ∙ link_far i1 c CLASS_PREV (Some pr) z CLASS_NEXT (λ e. absurd (omega (arith, e)))
+          ∙ link_by f c CLASS_NEXT (Some d) z CLASS_NEXT n;
+      prevs = λ z n w. link_by i3 d CLASS_PREV (Some c) z CLASS_PREV w ∙ link_far i2 pr CLASS_NEXT (Some c) z CLASS_PREV (λ e. absurd (omega (arith, e))) ∙ link_by i1 c CLASS_PREV (Some pr) z CLASS_PREV n ∙ link_far f c CLASS_NEXT (Some d) z CLASS_PREV (λ e. absurd (omega (arith, e)));
     }
 
+  -- before one of them, so that it isn't the last
+
+  module _ (xs' us vs : List ℕ) (l pr d : ℕ) (lists : (r : ℕ × ℕ) → is_key r p ≡ false → of_class f r xs' ≡ of_class f r xs) (cut : zs ≡ us ++ (d ∷ vs)) (inside : of_class f p xs' ≡ us ++ (c ∷ d ∷ vs)) (fresh : In c xs → ⊥)
+      (in_l : In l ls) (key_l : is_key (key_in f l) p ≡ true) (prev : link_in f d CLASS_PREV ≡ Some pr) where
+    abbrev i5 : ℕ → Option HeldCell
+    i5 = put_inside f m pr d c
+
+    ring_i : IsRing f l (us ++ (d ∷ vs))
+    ring_i = subst (λ ws. IsRing f l ws) cut (lead_key l in_l key_l)
+
+    front_i : (link_in f pr CLASS_NEXT ≡ Some d) × (((us ≡ []) × (pr ≡ l)) ⊎ ((ws : List ℕ) × (us ≡ ws ++ pr ∷ [])))
+    front_i = linked_prev (class_node f) l us d vs ring_i.0 pr prev
+
+    pr_zs : In pr zs
+    pr_zs = subst (λ ws. In pr ws) (sym cut) (elim front_i.1 [
+      | inl s ↦ subst (λ z. In z (us ++ (d ∷ vs))) (sym s.1) (ring_last l (us ++ (d ∷ vs)) ring_i.1 ring_i.2)
+      | inr s ↦ in_left pr us (d ∷ vs) (ring_last pr us s.0 s.1)
+    ])
+
+    d_zs : In d zs
+    d_zs = subst (λ ws. In d ws) (sym cut) (in_right d us (d ∷ vs) (inl refl))
+
+    -- what is left as it was
+    pub inside_touches : Touches f i5 m (c ∷ xs) p
+    inside_touches = touches_tree f (put_between f pr d c) m (c ∷ xs) p (put_touches pr d pr_zs d_zs fresh) c EVEN (Some m) (inr (inl refl, inl refl))
+
+    inside_node : (z : ℕ) → class_node i5 z ≡ class_node (put_between f pr d c) z
+    inside_node z = λ t. record { prev = link_far (put_between f pr d c) c EVEN (Some m) z CLASS_PREV (λ e. absurd (omega (arith, e))) t; next = link_far (put_between f pr d c) c EVEN (Some m) z CLASS_NEXT (λ e. absurd (omega (arith, e))) t }
+
+    inside_even : (z : ℕ) → z ≢ c → link_in i5 z EVEN ≡ link_in f z EVEN
+    inside_even z n = link_by (put_between f pr d c) c EVEN (Some m) z EVEN n ∙ put_even pr d pr_zs d_zs fresh z
+
+    inside_far : (z j : ℕ) → j ≢ CLASS_NEXT → j ≢ CLASS_PREV → j ≢ EVEN → link_in i5 z j ≡ link_in f z j
+    inside_far z j x y e = link_far (put_between f pr d c) c EVEN (Some m) z j e ∙ put_same pr d pr_zs d_zs fresh z j x y
+
+    lead_not_c : (k : ℕ) → In k ls → k ≢ c
+    lead_not_c k i e = fresh (subst (λ u. In u xs) e (old.inside k i))
+
+    ring_5 : IsRing i5 l (us ++ (c ∷ d ∷ vs))
+    ring_5 =
+        let new : In c (us ++ (d ∷ vs)) → ⊥ = λ i. fresh (zs_in c (subst (λ ws. In c ws) (sym cut) i)).0 in
+        let w = ring_more us c d vs ring_i.1 l ring_i.2 in (
+          linked_frame (class_node (put_between f pr d c)) (class_node i5) l (us ++ (c ∷ d ∷ vs)) (λ z _. inside_node z)
+              (put_linked (class_node f) (class_node (put_between f pr d c)) pr d c (put_node pr d pr_zs d_zs fresh) front_i.0 prev l us vs (λ i. elim i [ inl s ↦ lead_not_c l in_l s | inr j ↦ new j ]) (subst Distinct cut zs_once) ring_i.0),
+          w.0,
+          w.1,
+        )
+
     -- the classes then
-    pub inside_classed : AreClassed i4 m xs' t
-    inside_classed = reclassed f i4 m xs t old p xs' t (Some l) record {
-      keys = touches_keys f i4 m (c ∷ xs) p inside_touches;
+    pub inside_classed : AreClassed i5 m xs' t
+    inside_classed = reclassed f i5 m xs t old p xs' t (Some l) record {
+      keys = touches_keys f i5 m (c ∷ xs) p inside_touches;
       lists = lists;
       nodes = λ z _ e. inside_touches.nodes z e;
-      tree = subst (λ o. IsTree i4 o t) (sym (same m LEADERS (λ e. absurd (omega (arith, e))) (λ e. absurd (omega (arith, e)))))
-          (tree_frame f i4 (link_in f m LEADERS) t (λ k i. (same k EVEN (λ e. absurd (omega (arith, e))) (λ e. absurd (omega (arith, e))), same k ODD (λ e. absurd (omega (arith, e))) (λ e. absurd (omega (arith, e))))) (touches_there f i4 m (c ∷ xs) p inside_touches) old.tree);
+      tree = subst (λ o. IsTree i5 o t) (sym (inside_far m LEADERS (λ e. absurd (omega (arith, e))) (λ e. absurd (omega (arith, e))) (λ e. absurd (omega (arith, e)))))
+          (tree_frame f i5 (link_in f m LEADERS) t (λ k i. (inside_even k (lead_not_c k i), inside_far k ODD (λ e. absurd (omega (arith, e))) (λ e. absurd (omega (arith, e))) (λ e. absurd (omega (arith, e))))) (touches_there f i5 m (c ∷ xs) p inside_touches) old.tree);
       sorted = old.sorted;
       stay = λ k i _. i;
       were = λ k i _. i;
       heads = λ k i e. ap Some (lead_one l k in_l i key_l e);
       headed = λ k e. (let s : l ≡ k = cc in (subst (λ u. In u ls) s in_l, ap (λ u. is_key (key_in f u) p) (sym s) ∙ key_l));
-      run = λ k e. (let s : l ≡ k = cc in subst (λ ws. RunsRound i4 k ws) (sym inside) (subst (λ u. RunsRound i4 u (l ∷ (us ++ (c ∷ d ∷ vs)))) s
-          (subst (λ o. RunsThrough (class_node i4) o (Some l) (l ∷ (us ++ (c ∷ d ∷ vs))) o None) (sym (z_prev l l_not_c l_not_d))
-          (inserts_behind (class_node f) (class_node i4) (link_in f l CLASS_PREV) (Some l) (link_in f l CLASS_PREV) l us c d vs inside_between once_i (λ i. fresh (zs_in c (subst (λ ws. In c ws) (sym cut) i)).0) run_i))));
+      ring = λ k e. (let s : l ≡ k = cc in subst (λ ws. IsRing i5 k ws) (sym inside) (subst (λ u. IsRing i5 u (us ++ (c ∷ d ∷ vs))) s ring_5));
       none = λ e. absurd cc;
+      kept = λ z e _. inside_even z (not_own z e c (key_same p));
+      inner = λ z i n. elim (cases_eq z c) [
+        | inl e ↦ ap (λ u. link_in i5 u EVEN) e ∙ link_at (put_between f pr d c) c EVEN (Some m) ((put_touches pr d pr_zs d_zs fresh).lengths c ∙ have c there_c) (omega arith)
+        | inr o ↦ inside_even z o ∙ own_inner z (subst (λ ws. In z ws) (sym cut) (elim (in_either z us (c ∷ d ∷ vs) (subst (λ ws. In z ws) inside i)) [
+          | inl j ↦ in_left z us (d ∷ vs) j
+          | inr j ↦ elim j [ inl s ↦ absurd (o (sym s)) | inr k ↦ in_right z us (d ∷ vs) k ]
+        ])) n
+      ];
     }
-      where
-        same : (b j : ℕ) → j ≢ CLASS_NEXT → j ≢ CLASS_PREV → link_in i4 b j ≡ link_in f b j
-        same b j x y = link_far i3 d CLASS_PREV (Some c) b j y ∙ link_far i2 pr CLASS_NEXT (Some c) b j x ∙ link_far i1 c CLASS_PREV (Some pr) b j y ∙ link_far f c CLASS_NEXT (Some d) b j x
 
   -- An atom leaves from between two of its class
 
-  module _ (xs' us vs : List ℕ) (l pr nx : ℕ) (lists : (r : ℕ × ℕ) → is_key r p ≡ false → of_class f r xs' ≡ of_class f r xs) (cut : zs ≡ l ∷ (us ++ (c ∷ vs))) (inside : of_class f p xs' ≡ l ∷ (us ++ vs))
-      (in_l : In l ls) (key_l : is_key (key_in f l) p ≡ true) (prev : link_in f c CLASS_PREV ≡ Some pr) (next : link_in f c CLASS_NEXT ≡ Some nx) where
+  module _ (pr nx : ℕ) (pr_zs : In pr zs) (nx_zs : In nx zs) where
     abbrev e1 : ℕ → Option HeldCell
     e1 = link_written f pr CLASS_NEXT (Some nx)
 
     abbrev e2 : ℕ → Option HeldCell
     e2 = closed f pr nx
 
-    run_e : RunsRound f l (l ∷ (us ++ (c ∷ vs)))
-    run_e = subst (λ ws. RunsRound f l ws) cut (lead_key l in_l key_l)
-
-    once_e : Distinct (l ∷ (us ++ (c ∷ vs)))
-    once_e = subst Distinct cut zs_once
-
-    pr_e : In pr zs
-    pr_e = subst (λ ws. In pr ws) (sym cut) (in_left pr (l ∷ us) (c ∷ vs) (prev_in (class_node f) (link_in f l CLASS_PREV) (Some l) l us c vs (link_in f l CLASS_PREV) run_e pr prev).0)
-
-    nx_vs : In nx vs
-    nx_vs = next_in_run (class_node f) (link_in f l CLASS_PREV) (Some l) (l ∷ us) c vs (link_in f l CLASS_PREV) run_e nx next
-
-    nx_e : In nx zs
-    nx_e = subst (λ ws. In nx ws) (sym cut) (in_right nx (l ∷ us) (c ∷ vs) (inr nx_vs))
-
-    l_not_nx : l ≢ nx
-    l_not_nx = apart (l ∷ us) (c ∷ vs) l nx once_e (inl refl) (inr nx_vs)
-
     -- what is left as it was
     pub closed_touches : Touches f e2 m xs p
-    closed_touches = touches_own f e1 m xs p (touches_own f f m xs p (touches_none f m xs p) pr CLASS_NEXT (Some nx) (zs_in pr pr_e).0 (zs_in pr pr_e).1 (omega arith)) nx CLASS_PREV (Some pr) (zs_in nx nx_e).0 (zs_in nx nx_e).1 (omega arith)
+    closed_touches = touches_own f e1 m xs p (touches_own f f m xs p (touches_none f m xs p) pr CLASS_NEXT (Some nx) (zs_in pr pr_zs).0 (zs_in pr pr_zs).1 (omega arith)) nx CLASS_PREV (Some pr) (zs_in nx nx_zs).0 (zs_in nx nx_zs).1 (omega arith)
 
-    e_prev : (z : ℕ) → z ≢ nx → link_in e2 z CLASS_PREV ≡ link_in f z CLASS_PREV
-    e_prev z n = link_by e1 nx CLASS_PREV (Some pr) z CLASS_PREV n ∙ link_far f pr CLASS_NEXT (Some nx) z CLASS_PREV (λ e. absurd (omega (arith, e)))
+    closed_same : (b j : ℕ) → j ≢ CLASS_NEXT → j ≢ CLASS_PREV → link_in e2 b j ≡ link_in f b j
+    closed_same b j x y = link_far e1 nx CLASS_PREV (Some pr) b j y ∙ link_far f pr CLASS_NEXT (Some nx) b j x
 
-    e_next : (z : ℕ) → z ≢ pr → link_in e2 z CLASS_NEXT ≡ link_in f z CLASS_NEXT
-    e_next z n = link_far e1 nx CLASS_PREV (Some pr) z CLASS_NEXT (λ e. absurd (omega (arith, e))) ∙ link_by f pr CLASS_NEXT (Some nx) z CLASS_NEXT n
+    closed_even : (b : ℕ) → link_in e2 b EVEN ≡ link_in f b EVEN
+    closed_even b = closed_same b EVEN (λ e. absurd (omega (arith, e))) (λ e. absurd (omega (arith, e)))
 
-    closed_left : Left (class_node f) (class_node e2) c (link_in f c CLASS_PREV) (link_in f c CLASS_NEXT)
-    closed_left = record {
-      other = λ z n a b t. record { prev = e_prev z (λ s. b (next ∙ ap Some (sym s))) t; next = e_next z (λ s. a (prev ∙ ap Some (sym s))) t };
-      before = λ z n a b t. (let s : ◌≡◌ {A = Option ℕ} (Some z) (Some pr) = sym a ∙ prev in let r : z ≡ pr = cc in record {
-        prev = e_prev z (λ s. b (next ∙ ap Some (sym s))) t;
-        next = (ap (λ u. link_in e2 u CLASS_NEXT) r ∙ link_far e1 nx CLASS_PREV (Some pr) pr CLASS_NEXT (λ e. absurd (omega (arith, e))) ∙ link_at f pr CLASS_NEXT (Some nx) (have pr (alive pr (zs_in pr pr_e).0)) (omega arith) ∙ sym next) t;
-      });
-      behind = λ z n a b t. (let s : ◌≡◌ {A = Option ℕ} (Some z) (Some nx) = sym b ∙ next in let r : z ≡ nx = cc in record {
-        prev = (ap (λ u. link_in e2 u CLASS_PREV) r ∙ link_at e1 nx CLASS_PREV (Some pr) (length_kept f pr CLASS_NEXT (Some nx) nx ∙ have nx (alive nx (zs_in nx nx_e).0)) (omega arith) ∙ sym prev) t;
-        next = e_next z (λ s. a (prev ∙ ap Some (sym s))) t;
-      });
+    -- they are linked with each other
+    closed_node : ClosesUp (class_node f) (class_node e2) pr nx
+    closed_node = record {
+      before = link_far e1 nx CLASS_PREV (Some pr) pr CLASS_NEXT (λ e. absurd (omega (arith, e))) ∙ link_at f pr CLASS_NEXT (Some nx) (have pr (alive pr (zs_in pr pr_zs).0)) (omega arith);
+      behind = link_at e1 nx CLASS_PREV (Some pr) (length_kept f pr CLASS_NEXT (Some nx) nx ∙ have nx (alive nx (zs_in nx nx_zs).0)) (omega arith);
+      nexts = λ z n. link_far e1 nx CLASS_PREV (Some pr) z CLASS_NEXT (λ e. absurd (omega (arith, e))) ∙ link_by f pr CLASS_NEXT (Some nx) z CLASS_NEXT n;
+      prevs = λ z n. link_by e1 nx CLASS_PREV (Some pr) z CLASS_PREV n ∙ link_far f pr CLASS_NEXT (Some nx) z CLASS_PREV (λ e. absurd (omega (arith, e)));
     }
 
-    -- the classes then
-    pub closed_classed : AreClassed e2 m xs' t
-    closed_classed = reclassed f e2 m xs t old p xs' t (Some l) record {
-      keys = touches_keys f e2 m xs p closed_touches;
-      lists = lists;
-      nodes = λ z _ e. closed_touches.nodes z e;
-      tree = subst (λ o. IsTree e2 o t) (sym (same m LEADERS (λ e. absurd (omega (arith, e))) (λ e. absurd (omega (arith, e)))))
-          (tree_frame f e2 (link_in f m LEADERS) t (λ k i. (same k EVEN (λ e. absurd (omega (arith, e))) (λ e. absurd (omega (arith, e))), same k ODD (λ e. absurd (omega (arith, e))) (λ e. absurd (omega (arith, e))))) (touches_there f e2 m xs p closed_touches) old.tree);
-      sorted = old.sorted;
-      stay = λ k i _. i;
-      were = λ k i _. i;
-      heads = λ k i e. ap Some (lead_one l k in_l i key_l e);
-      headed = λ k e. (let s : l ≡ k = cc in (subst (λ u. In u ls) s in_l, ap (λ u. is_key (key_in f u) p) (sym s) ∙ key_l));
-      run = λ k e. (let s : l ≡ k = cc in subst (λ ws. RunsRound e2 k ws) (sym inside) (subst (λ u. RunsRound e2 u (l ∷ (us ++ vs))) s
-          (subst (λ o. RunsThrough (class_node e2) o (Some l) (l ∷ (us ++ vs)) o None) (sym (e_prev l l_not_nx))
-          (subst (λ o. RunsThrough (class_node e2) (link_in f l CLASS_PREV) (Some l) (l ∷ (us ++ vs)) (ends (link_in f l CLASS_PREV) o (link_in f c CLASS_PREV)) None) next
-          (leaves_behind (class_node f) (class_node e2) (link_in f l CLASS_PREV) (Some l) (link_in f l CLASS_PREV) l us c vs closed_left once_e run_e)))));
-      none = λ e. absurd cc;
-    }
-      where
-        same : (b j : ℕ) → j ≢ CLASS_NEXT → j ≢ CLASS_PREV → link_in e2 b j ≡ link_in f b j
-        same b j x y = link_far e1 nx CLASS_PREV (Some pr) b j y ∙ link_far f pr CLASS_NEXT (Some nx) b j x
+    -- where it isn't the last
+    module _ (xs' us vs : List ℕ) (l : ℕ) (lists : (r : ℕ × ℕ) → is_key r p ≡ false → of_class f r xs' ≡ of_class f r xs) (cut : zs ≡ us ++ (c ∷ nx ∷ vs)) (inside : of_class f p xs' ≡ us ++ (nx ∷ vs))
+        (in_l : In l ls) (key_l : is_key (key_in f l) p ≡ true) (prev : link_in f c CLASS_PREV ≡ Some pr) where
+      ring_e : IsRing f l (us ++ (c ∷ nx ∷ vs))
+      ring_e = subst (λ ws. IsRing f l ws) cut (lead_key l in_l key_l)
 
-  -- The last one of a class leaves
+      ring_2 : IsRing e2 l (us ++ (nx ∷ vs))
+      ring_2 = let w = ring_less us c nx vs ring_e.1 l ring_e.2 in (
+        close_linked (class_node f) (class_node e2) pr nx c closed_node (linked_prev (class_node f) l us c (nx ∷ vs) ring_e.0 pr prev).0 prev l us vs (subst Distinct cut zs_once) ring_e.0,
+        w.0,
+        w.1,
+      )
 
-  module _ (xs' us : List ℕ) (l pr : ℕ) (lists : (r : ℕ × ℕ) → is_key r p ≡ false → of_class f r xs' ≡ of_class f r xs) (cut : zs ≡ l ∷ (us ++ c ∷ [])) (inside : of_class f p xs' ≡ l ∷ us)
-      (in_l : In l ls) (key_l : is_key (key_in f l) p ≡ true) (prev : link_in f c CLASS_PREV ≡ Some pr) (next : link_in f c CLASS_NEXT ≡ None) where
-    abbrev s1 : ℕ → Option HeldCell
-    s1 = link_written f pr CLASS_NEXT None
+      -- the classes then
+      pub closed_classed : AreClassed e2 m xs' t
+      closed_classed = reclassed f e2 m xs t old p xs' t (Some l) record {
+        keys = touches_keys f e2 m xs p closed_touches;
+        lists = lists;
+        nodes = λ z _ e. closed_touches.nodes z e;
+        tree = subst (λ o. IsTree e2 o t) (sym (closed_same m LEADERS (λ e. absurd (omega (arith, e))) (λ e. absurd (omega (arith, e)))))
+            (tree_frame f e2 (link_in f m LEADERS) t (λ k i. (closed_even k, closed_same k ODD (λ e. absurd (omega (arith, e))) (λ e. absurd (omega (arith, e))))) (touches_there f e2 m xs p closed_touches) old.tree);
+        sorted = old.sorted;
+        stay = λ k i _. i;
+        were = λ k i _. i;
+        heads = λ k i e. ap Some (lead_one l k in_l i key_l e);
+        headed = λ k e. (let s : l ≡ k = cc in (subst (λ u. In u ls) s in_l, ap (λ u. is_key (key_in f u) p) (sym s) ∙ key_l));
+        ring = λ k e. (let s : l ≡ k = cc in subst (λ ws. IsRing e2 k ws) (sym inside) (subst (λ u. IsRing e2 u (us ++ (nx ∷ vs))) s ring_2));
+        none = λ e. absurd cc;
+        kept = λ z _ _. closed_even z;
+        inner = λ z i n. closed_even z ∙ own_inner z (subst (λ ws. In z ws) (sym cut) (elim (in_either z us (nx ∷ vs) (subst (λ ws. In z ws) inside i)) [ inl j ↦ in_left z us (c ∷ nx ∷ vs) j | inr j ↦ in_right z us (c ∷ nx ∷ vs) (inr j) ])) n;
+      }
 
-    abbrev s2 : ℕ → Option HeldCell
-    s2 = shortened f l pr
-
-    run_s : RunsRound f l (l ∷ (us ++ c ∷ []))
-    run_s = subst (λ ws. RunsRound f l ws) cut (lead_key l in_l key_l)
-
-    once_s : Distinct (l ∷ (us ++ c ∷ []))
-    once_s = subst Distinct cut zs_once
-
-    pr_s : In pr zs
-    pr_s = subst (λ ws. In pr ws) (sym cut) (in_left pr (l ∷ us) (c ∷ []) (prev_in (class_node f) (link_in f l CLASS_PREV) (Some l) l us c [] (link_in f l CLASS_PREV) run_s pr prev).0)
-
-    -- what is left as it was
-    pub shortened_touches : Touches f s2 m xs p
-    shortened_touches = touches_own f s1 m xs p (touches_own f f m xs p (touches_none f m xs p) pr CLASS_NEXT None (zs_in pr pr_s).0 (zs_in pr pr_s).1 (omega arith)) l CLASS_PREV (Some pr) (old.inside l in_l) key_l (omega arith)
-
-    s_prev : (z : ℕ) → link_in s1 z CLASS_PREV ≡ link_in f z CLASS_PREV
-    s_prev z = link_far f pr CLASS_NEXT None z CLASS_PREV (λ e. absurd (omega (arith, e)))
-
-    shortened_left : Left (class_node f) (class_node s1) c (link_in f c CLASS_PREV) (link_in f c CLASS_NEXT)
-    shortened_left = record {
-      other = λ z n a b t. record { prev = s_prev z t; next = link_by f pr CLASS_NEXT None z CLASS_NEXT (λ s. a (prev ∙ ap Some (sym s))) t };
-      before = λ z n a b t. (let s : ◌≡◌ {A = Option ℕ} (Some z) (Some pr) = sym a ∙ prev in let r : z ≡ pr = cc in record {
-        prev = s_prev z t;
-        next = (ap (λ u. link_in s1 u CLASS_NEXT) r ∙ link_at f pr CLASS_NEXT None (have pr (alive pr (zs_in pr pr_s).0)) (omega arith) ∙ sym next) t;
-      });
-      behind = λ z n a b. absurd (let s : ◌≡◌ {A = Option ℕ} (Some z) None = sym b ∙ next in cc);
-    }
-
-    len_s : length (links_of (s1 l)) ≡ 8
-    len_s = length_kept f pr CLASS_NEXT None l ∙ have l (alive l (old.inside l in_l))
-
-    nothing : (ws : List ℕ) → ws ++ [] ≡ ws
-    nothing [] = refl
-    nothing (w ∷ ws) = ap (λ us. w ∷ us) (nothing ws)
-
-    -- without it, and then with another one before the first
-    run_1 : RunsThrough (class_node s1) (link_in f l CLASS_PREV) (Some l) (l ∷ us) (Some pr) None
-    run_1 = subst (λ ws. RunsThrough (class_node s1) (link_in f l CLASS_PREV) (Some l) (l ∷ ws) (Some pr) None) (nothing us)
-        (subst (λ o. RunsThrough (class_node s1) (link_in f l CLASS_PREV) (Some l) (l ∷ (us ++ [])) o None) prev
-        (subst (λ o. RunsThrough (class_node s1) (link_in f l CLASS_PREV) (Some l) (l ∷ (us ++ [])) (ends (link_in f l CLASS_PREV) o (link_in f c CLASS_PREV)) None) next
-        (leaves_behind (class_node f) (class_node s1) (link_in f l CLASS_PREV) (Some l) (link_in f l CLASS_PREV) l us c [] shortened_left once_s run_s)))
-
-    run_2 : RunsThrough (class_node s2) (Some pr) (Some l) (l ∷ us) (Some pr) None
-    run_2 = relink_start (class_node s1) (class_node s2) (link_in f l CLASS_PREV) (Some l) l us (Some pr) None (Some pr) run_1
-        (λ t. record { prev = link_at s1 l CLASS_PREV (Some pr) len_s (omega arith) t; next = link_far s1 l CLASS_PREV (Some pr) l CLASS_NEXT (λ e. absurd (omega (arith, e))) t })
-        (each_of _ us (λ z i t. record { prev = link_by s1 l CLASS_PREV (Some pr) z CLASS_PREV (λ e. each_in (λ u. l ≢ u) (us ++ c ∷ []) z once_s.0 (in_left z us (c ∷ []) i) (sym e)) t; next = link_far s1 l CLASS_PREV (Some pr) z CLASS_NEXT (λ e. absurd (omega (arith, e))) t }))
-
-    -- the classes then
-    pub shortened_classed : AreClassed s2 m xs' t
-    shortened_classed = reclassed f s2 m xs t old p xs' t (Some l) record {
-      keys = touches_keys f s2 m xs p shortened_touches;
-      lists = lists;
-      nodes = λ z _ e. shortened_touches.nodes z e;
-      tree = subst (λ o. IsTree s2 o t) (sym (same m LEADERS (λ e. absurd (omega (arith, e))) (λ e. absurd (omega (arith, e)))))
-          (tree_frame f s2 (link_in f m LEADERS) t (λ k i. (same k EVEN (λ e. absurd (omega (arith, e))) (λ e. absurd (omega (arith, e))), same k ODD (λ e. absurd (omega (arith, e))) (λ e. absurd (omega (arith, e))))) (touches_there f s2 m xs p shortened_touches) old.tree);
-      sorted = old.sorted;
-      stay = λ k i _. i;
-      were = λ k i _. i;
-      heads = λ k i e. ap Some (lead_one l k in_l i key_l e);
-      headed = λ k e. (let s : l ≡ k = cc in (subst (λ u. In u ls) s in_l, ap (λ u. is_key (key_in f u) p) (sym s) ∙ key_l));
-      run = λ k e. (let s : l ≡ k = cc in subst (λ ws. RunsRound s2 k ws) (sym inside) (subst (λ u. RunsRound s2 u (l ∷ us)) s
-          (subst (λ o. RunsThrough (class_node s2) o (Some l) (l ∷ us) o None) (sym (link_at s1 l CLASS_PREV (Some pr) len_s (omega arith))) run_2)));
-      none = λ e. absurd cc;
-    }
-      where
-        same : (b j : ℕ) → j ≢ CLASS_NEXT → j ≢ CLASS_PREV → link_in s2 b j ≡ link_in f b j
-        same b j x y = link_far s1 l CLASS_PREV (Some pr) b j y ∙ link_far f pr CLASS_NEXT None b j x
-
-  -- The first of a class changes
+  -- The last of a class changes
 
   module _ (x : ℕ) (pa pb : ClassTree) (is_x : (place_in f p m t).tree ≡ Fork x pa pb) where
     lead : top (place_in f p m t).tree ≡ Some x
@@ -533,7 +367,7 @@ module _ (f : ℕ → Option HeldCell) (m c : ℕ) (xs : List ℕ) (t : ClassTre
     there_x : IsSome (f (place_in f p m t).holder)
     there_x = holds_there f m xs (place_in f p m t).holder (place_in f p m t).link (holds_atoms f m xs t old no_m p) there_m alive
 
-    -- a leader of another class is another leader
+    -- a last one of another class is another one
     other_lead : (z : ℕ) → is_key (key_in f z) p ≡ false → x ≡ z → ⊥
     other_lead z e s = let w : true ≡ false = sym x_ls.1 ∙ ap (λ u. is_key (key_in f u) p) s ∙ e in absurd cc
 
@@ -541,7 +375,7 @@ module _ (f : ℕ → Option HeldCell) (m c : ℕ) (xs : List ℕ) (t : ClassTre
     same_lead : (z : ℕ) → In z ls → is_key (key_in f z) p ≡ true → x ≡ z
     same_lead z i e = lead_one x z x_ls.0 i x_ls.1 e
 
-    -- Another one of the class leads
+    -- Another one of the class is the last
 
     module _ (n : ℕ) (key_n : is_key (key_in f n) p ≡ true) (new : In n ls → ⊥) (n_there : IsSome (f n)) (n_not : n ≢ m) (g : ℕ → Option HeldCell) (there_g : (z : ℕ) → IsSome (f z) → IsSome (g z)) (long_g : (z : ℕ) → IsSome (f z) → length (links_of (g z)) ≡ 8)
         (agree : (b j : ℕ) → (j ≡ EVEN) ⊎ ((j ≡ ODD) ⊎ (j ≡ LEADERS)) → link_in g b j ≡ link_in f b j) where
@@ -576,174 +410,209 @@ module _ (f : ℕ → Option HeldCell) (m c : ℕ) (xs : List ℕ) (t : ClassTre
       pub lead_headed : (l : ℕ) → Some n ≡ Some l → In l (leaders then_x) × (is_key (key_in f l) p ≡ true)
       lead_headed l e = let s : n ≡ l = cc in ((at f m xs t old no_m p).hole.ins (Fork n pa pb) l (inl s), ap (λ u. is_key (key_in f u) p) (sym s) ∙ key_n)
 
-  -- An atom comes before the first of its class
+  -- An atom comes behind the last of its class
 
-  module _ (xs' vs : List ℕ) (d : ℕ) (lists : (r : ℕ × ℕ) → is_key r p ≡ false → of_class f r xs' ≡ of_class f r xs) (cut : zs ≡ d ∷ vs) (inside : of_class f p xs' ≡ c ∷ d ∷ vs) (fresh : In c xs → ⊥) (pa pb : ClassTree) (is_x : (place_in f p m t).tree ≡ Fork d pa pb) where
-    abbrev h1 : ℕ → Option HeldCell
-    h1 = link_written f c CLASS_NEXT (Some d)
+  module _ (xs' : List ℕ) (l d : ℕ) (lists : (r : ℕ × ℕ) → is_key r p ≡ false → of_class f r xs' ≡ of_class f r xs) (longer : of_class f p xs' ≡ zs ++ c ∷ []) (fresh : In c xs → ⊥) (pa pb : ClassTree) (is_x : (place_in f p m t).tree ≡ Fork l pa pb)
+      (first : link_in f l CLASS_NEXT ≡ Some d) where
+    abbrev h4 : ℕ → Option HeldCell
+    h4 = put_between f l d c
 
-    abbrev h2 : ℕ → Option HeldCell
-    h2 = link_written h1 c CLASS_PREV (link_in f d CLASS_PREV)
+    abbrev h7 : ℕ → Option HeldCell
+    h7 = taken_over h4 (place_in f p m t).holder (place_in f p m t).link l c
 
-    abbrev h3 : ℕ → Option HeldCell
-    h3 = link_written h2 d CLASS_PREV (Some c)
+    abbrev h8 : ℕ → Option HeldCell
+    h8 = lengthened f m (place_in f p m t).holder (place_in f p m t).link l d c
 
-    abbrev h6 : ℕ → Option HeldCell
-    h6 = put_first f (place_in f p m t).holder (place_in f p m t).link d c
+    l_ls : In l ls × (is_key (key_in f l) p ≡ true)
+    l_ls = x_ls l pa pb is_x
 
-    d_ls : In d ls × (is_key (key_in f d) p ≡ true)
-    d_ls = x_ls d pa pb is_x
+    ring_l : IsRing f l zs
+    ring_l = lead_key l l_ls.0 l_ls.1
 
-    not_d : c ≢ d
-    not_d e = fresh (subst (λ u. In u xs) (sym e) (old.inside d d_ls.0))
+    l_zs : In l zs
+    l_zs = ring_last l zs ring_l.1 ring_l.2
+
+    d_in : In d zs × (link_in f d CLASS_PREV ≡ Some l)
+    d_in = ring_first (class_node f) l zs ring_l.1 ring_l.2 ring_l.0 d first
 
     no_c : In c ls → ⊥
     no_c i = fresh (old.inside c i)
 
-    run_d : RunsRound f d (d ∷ vs)
-    run_d = subst (λ ws. RunsRound f d ws) cut (lead_key d d_ls.0 d_ls.1)
+    touches_4 : Touches f h4 m (c ∷ xs) p
+    touches_4 = put_touches l d l_zs d_in.0 fresh
 
-    once_d : Distinct (d ∷ vs)
-    once_d = subst Distinct cut zs_once
-
-    touches_3 : Touches f h3 m (c ∷ xs) p
-    touches_3 = touches_own f h2 m (c ∷ xs) p (touches_own f h1 m (c ∷ xs) p (touches_own f f m (c ∷ xs) p (touches_none f m (c ∷ xs) p)
-        c CLASS_NEXT (Some d) (inl refl) (key_same p) (omega arith)) c CLASS_PREV (link_in f d CLASS_PREV) (inl refl) (key_same p) (omega arith)) d CLASS_PREV (Some c) (inr (old.inside d d_ls.0)) d_ls.1 (omega arith)
+    touches_7 : Touches f h7 m (c ∷ xs) p
+    touches_7 = touches_taken f h4 m (c ∷ xs) p touches_4 (place_in f p m t).holder (place_in f p m t).link l c (inl refl) (holds_more m xs (c ∷ xs) (place_in f p m t).holder (place_in f p m t).link (λ z i. inr i) (holds_atoms f m xs t old no_m p))
 
     -- what is left as it was
-    pub first_touches : Touches f h6 m (c ∷ xs) p
-    first_touches = touches_taken f h3 m (c ∷ xs) p touches_3 (place_in f p m t).holder (place_in f p m t).link d c (inl refl) (holds_more m xs (c ∷ xs) (place_in f p m t).holder (place_in f p m t).link (λ z i. inr i) (holds_atoms f m xs t old no_m p))
+    pub longer_touches : Touches f h8 m (c ∷ xs) p
+    longer_touches = touches_tree f h7 m (c ∷ xs) p touches_7 l EVEN (Some m) (inr (inr (old.inside l l_ls.0), inl refl))
 
-    -- to the third step
-    down : (b j : ℕ) → j ≢ EVEN → j ≢ ODD → j ≢ LEADERS → link_in h6 b j ≡ link_in h3 b j
-    down b j x y z = taken_place f m xs t old no_m p h3 d c b j x y z
-
-    d_prev6 : (b : ℕ) → b ≢ c → b ≢ d → link_in h6 b CLASS_PREV ≡ link_in f b CLASS_PREV
-    d_prev6 b n w = down b CLASS_PREV (λ e. absurd (omega (arith, e))) (λ e. absurd (omega (arith, e))) (λ e. absurd (omega (arith, e))) ∙ link_by h2 d CLASS_PREV (Some c) b CLASS_PREV w ∙ link_by h1 c CLASS_PREV (link_in f d CLASS_PREV) b CLASS_PREV n ∙ link_by f c CLASS_NEXT (Some d) b CLASS_PREV n
-
-    d_next6 : (b : ℕ) → b ≢ c → link_in h6 b CLASS_NEXT ≡ link_in f b CLASS_NEXT
-    d_next6 b n = down b CLASS_NEXT (λ e. absurd (omega (arith, e))) (λ e. absurd (omega (arith, e))) (λ e. absurd (omega (arith, e))) ∙ link_far h2 d CLASS_PREV (Some c) b CLASS_NEXT (λ e. absurd (omega (arith, e))) ∙ link_by h1 c CLASS_PREV (link_in f d CLASS_PREV) b CLASS_NEXT n ∙ link_by f c CLASS_NEXT (Some d) b CLASS_NEXT n
-
-    c_prev6 : link_in h6 c CLASS_PREV ≡ link_in f d CLASS_PREV
-    c_prev6 = down c CLASS_PREV (λ e. absurd (omega (arith, e))) (λ e. absurd (omega (arith, e))) (λ e. absurd (omega (arith, e))) ∙ link_by h2 d CLASS_PREV (Some c) c CLASS_PREV not_d ∙ link_at h1 c CLASS_PREV (link_in f d CLASS_PREV) (length_kept f c CLASS_NEXT (Some d) c ∙ have c there_c) (omega arith)
-
-    c_next6 : link_in h6 c CLASS_NEXT ≡ Some d
-    c_next6 = down c CLASS_NEXT (λ e. absurd (omega (arith, e))) (λ e. absurd (omega (arith, e))) (λ e. absurd (omega (arith, e))) ∙ link_far h2 d CLASS_PREV (Some c) c CLASS_NEXT (λ e. absurd (omega (arith, e))) ∙ link_far h1 c CLASS_PREV (link_in f d CLASS_PREV) c CLASS_NEXT (λ e. absurd (omega (arith, e))) ∙ link_at f c CLASS_NEXT (Some d) (have c there_c) (omega arith)
-
-    len_d : length (links_of (h2 d)) ≡ 8
-    len_d = length_kept h1 c CLASS_PREV (link_in f d CLASS_PREV) d ∙ length_kept f c CLASS_NEXT (Some d) d ∙ have d (alive d (old.inside d d_ls.0))
-
-    -- the others of the class, with c before the first one
-    run_6 : RunsThrough (class_node h6) (Some c) (Some d) (d ∷ vs) (link_in f d CLASS_PREV) None
-    run_6 = relink_start (class_node f) (class_node h6) (link_in f d CLASS_PREV) (Some d) d vs (link_in f d CLASS_PREV) None (Some c) run_d
-        (λ t. record { prev = (down d CLASS_PREV (λ e. absurd (omega (arith, e))) (λ e. absurd (omega (arith, e))) (λ e. absurd (omega (arith, e))) ∙ link_at h2 d CLASS_PREV (Some c) len_d (omega arith)) t; next = d_next6 d (λ e. not_d (sym e)) t })
-        (each_of _ vs (λ z i t. record { prev = d_prev6 z (away z i) (λ e. each_in (λ u. d ≢ u) vs z once_d.0 i (sym e)) t; next = d_next6 z (away z i) t }))
-      where
-        away : (z : ℕ) → In z vs → z ≢ c
-        away z i e = fresh (subst (λ u. In u xs) e (zs_in z (subst (λ ws. In z ws) (sym cut) (inr i))).0)
-
-    there3 : (b : ℕ) → IsSome (f b) → IsSome (h3 b)
-    there3 b s = touches_there f h3 m (c ∷ xs) p touches_3 b s
-
-    long_3 : (z : ℕ) → IsSome (f z) → length (links_of (h3 z)) ≡ 8
-    long_3 z s = touches_3.lengths z ∙ have z s
-
-    agree3 : (b j : ℕ) → (j ≡ EVEN) ⊎ ((j ≡ ODD) ⊎ (j ≡ LEADERS)) → link_in h3 b j ≡ link_in f b j
-    agree3 b j o = link_far h2 d CLASS_PREV (Some c) b j (λ e. not_side j o (inr e)) ∙ link_far h1 c CLASS_PREV (link_in f d CLASS_PREV) b j (λ e. not_side j o (inr e)) ∙ link_far f c CLASS_NEXT (Some d) b j (λ e. not_side j o (inl e))
-
-    -- the classes then
-    pub first_classed : AreClassed h6 m xs' ((at f m xs t old no_m p).hole.fill (Fork c pa pb))
-    first_classed = reclassed f h6 m xs t old p xs' ((at f m xs t old no_m p).hole.fill (Fork c pa pb)) (Some c) record {
-      keys = touches_keys f h6 m (c ∷ xs) p first_touches;
-      lists = lists;
-      nodes = λ z _ e. first_touches.nodes z e;
-      tree = lead_tree d pa pb is_x c (key_same p) no_c there_c not_m h3 there3 long_3 agree3;
-      sorted = lead_sorted d pa pb is_x c (key_same p) no_c there_c not_m h3 there3 long_3 agree3;
-      stay = lead_stay d pa pb is_x c (key_same p) no_c there_c not_m h3 there3 long_3 agree3;
-      were = lead_were d pa pb is_x c (key_same p) no_c there_c not_m h3 there3 long_3 agree3;
-      heads = lead_heads d pa pb is_x c (key_same p) no_c there_c not_m h3 there3 long_3 agree3;
-      headed = lead_headed d pa pb is_x c (key_same p) no_c there_c not_m h3 there3 long_3 agree3;
-      run = λ l e. (let s : c ≡ l = cc in subst (λ ws. RunsRound h6 l ws) (sym inside) (subst (λ u. RunsRound h6 u (c ∷ d ∷ vs)) s
-          (subst (λ o. RunsThrough (class_node h6) o (Some c) (c ∷ d ∷ vs) o None) (sym c_prev6) (refl, c_prev6, subst (λ o. RunsThrough (class_node h6) (Some c) o (d ∷ vs) (link_in f d CLASS_PREV) None) (sym c_next6) run_6))));
-      none = λ e. absurd cc;
+    -- its links in the ring stay from there on
+    node_8 : (z : ℕ) → class_node h8 z ≡ class_node h4 z
+    node_8 z = λ u. record {
+      prev = (link_far h7 l EVEN (Some m) z CLASS_PREV (λ e. absurd (omega (arith, e))) ∙ taken_place f m xs t old no_m p h4 l c z CLASS_PREV (λ e. absurd (omega (arith, e))) (λ e. absurd (omega (arith, e))) (λ e. absurd (omega (arith, e)))) u;
+      next = (link_far h7 l EVEN (Some m) z CLASS_NEXT (λ e. absurd (omega (arith, e))) ∙ taken_place f m xs t old no_m p h4 l c z CLASS_NEXT (λ e. absurd (omega (arith, e))) (λ e. absurd (omega (arith, e))) (λ e. absurd (omega (arith, e)))) u;
     }
 
-  -- The first of a class leaves, and the next one leads
+    ring_8 : IsRing h8 c (zs ++ c ∷ [])
+    ring_8 =
+        let whole : ring_l.1 ++ l ∷ [] ≡ zs = sym ring_l.2 in (
+          linked_frame (class_node h4) (class_node h8) c (zs ++ c ∷ []) (λ z _. node_8 z)
+              (subst (λ ws. Linked (class_node h4) c (ws ++ c ∷ [])) whole (put_last (class_node f) (class_node h4) l d c (put_node l d l_zs d_in.0 fresh) first d_in.1 ring_l.1
+              (λ i. fresh (zs_in c (subst (λ ws. In c ws) whole i)).0) (subst Distinct ring_l.2 zs_once) (subst (λ ws. Linked (class_node f) l ws) ring_l.2 ring_l.0))),
+          zs,
+          refl,
+        )
 
-  module _ (xs' vs : List ℕ) (nx : ℕ) (lists : (r : ℕ × ℕ) → is_key r p ≡ false → of_class f r xs' ≡ of_class f r xs) (cut : zs ≡ c ∷ nx ∷ vs) (inside : of_class f p xs' ≡ nx ∷ vs) (pa pb : ClassTree) (is_x : (place_in f p m t).tree ≡ Fork c pa pb) where
-    abbrev g1 : ℕ → Option HeldCell
-    g1 = link_written f nx CLASS_PREV (link_in f c CLASS_PREV)
+    there_4 : (b : ℕ) → IsSome (f b) → IsSome (h4 b)
+    there_4 b s = touches_there f h4 m (c ∷ xs) p touches_4 b s
 
-    abbrev g4 : ℕ → Option HeldCell
-    g4 = passed f (place_in f p m t).holder (place_in f p m t).link c nx
+    long_4 : (z : ℕ) → IsSome (f z) → length (links_of (h4 z)) ≡ 8
+    long_4 z s = touches_4.lengths z ∙ have z s
 
-    nx_zs : In nx zs
-    nx_zs = subst (λ ws. In nx ws) (sym cut) (inr (inl refl))
+    agree_4 : (b j : ℕ) → (j ≡ EVEN) ⊎ ((j ≡ ODD) ⊎ (j ≡ LEADERS)) → link_in h4 b j ≡ link_in f b j
+    agree_4 b j o = put_same l d l_zs d_in.0 fresh b j (λ e. not_side j o (inl e)) (λ e. not_side j o (inr e))
 
-    key_nx : is_key (key_in f nx) p ≡ true
-    key_nx = (zs_in nx nx_zs).1
+    abbrev then_l : ClassTree
+    then_l = (at f m xs t old no_m p).hole.fill (Fork c pa pb)
 
-    once_g : Distinct (c ∷ nx ∷ vs)
-    once_g = subst Distinct cut zs_once
+    -- the one before isn't in the tree any more
+    not_l : (z : ℕ) → In z (leaders then_l) → z ≢ l
+    not_l z i e =
+        let w : Some c ≡ Some l = lead_heads l pa pb is_x c (key_same p) no_c there_c not_m h4 there_4 long_4 agree_4 l (subst (λ u. In u (leaders then_l)) e i) l_ls.1 in
+        let s : c ≡ l = cc in no_c (subst (λ u. In u ls) (sym s) l_ls.0)
 
-    run_g : RunsRound f c (c ∷ nx ∷ vs)
-    run_g = subst (λ ws. RunsRound f c ws) cut (lead_key c (x_ls c pa pb is_x).0 (x_ls c pa pb is_x).1)
+    tree_8 : IsTree h8 (link_in h8 m LEADERS) then_l
+    tree_8 = subst (λ o. IsTree h8 o then_l) (sym (link_far h7 l EVEN (Some m) m LEADERS (λ e. absurd (omega (arith, e)))))
+        (tree_frame h7 h8 (link_in h7 m LEADERS) then_l (λ z i. (link_by h7 l EVEN (Some m) z EVEN (not_l z i), link_by h7 l EVEN (Some m) z ODD (not_l z i))) (λ b s. kept h7 h8 l EVEN (Some m) b refl s)
+        (lead_tree l pa pb is_x c (key_same p) no_c there_c not_m h4 there_4 long_4 agree_4))
 
-    no_nx : In nx ls → ⊥
-    no_nx i = each_in (λ u. c ≢ u) (nx ∷ vs) nx once_g.0 (inl refl) (same_lead c pa pb is_x nx i key_nx)
-
-    nx_not_m : nx ≢ m
-    nx_not_m e = no_m (subst (λ u. In u xs) e (zs_in nx nx_zs).0)
-
-    touches_1 : Touches f g1 m xs p
-    touches_1 = touches_own f f m xs p (touches_none f m xs p) nx CLASS_PREV (link_in f c CLASS_PREV) (zs_in nx nx_zs).0 key_nx (omega arith)
-
-    -- what is left as it was
-    pub passed_touches : Touches f g4 m xs p
-    passed_touches = touches_taken f g1 m xs p touches_1 (place_in f p m t).holder (place_in f p m t).link c nx (zs_in nx nx_zs).0 (holds_atoms f m xs t old no_m p)
-
-    there_nx : IsSome (f nx)
-    there_nx = alive nx (zs_in nx nx_zs).0
-
-    down_g : (b j : ℕ) → j ≢ EVEN → j ≢ ODD → j ≢ LEADERS → link_in g4 b j ≡ link_in g1 b j
-    down_g b j x y z = taken_place f m xs t old no_m p g1 c nx b j x y z
-
-    g_next : (b : ℕ) → link_in g4 b CLASS_NEXT ≡ link_in f b CLASS_NEXT
-    g_next b = down_g b CLASS_NEXT (λ e. absurd (omega (arith, e))) (λ e. absurd (omega (arith, e))) (λ e. absurd (omega (arith, e))) ∙ link_far f nx CLASS_PREV (link_in f c CLASS_PREV) b CLASS_NEXT (λ e. absurd (omega (arith, e)))
-
-    nx_prev : link_in g4 nx CLASS_PREV ≡ link_in f c CLASS_PREV
-    nx_prev = down_g nx CLASS_PREV (λ e. absurd (omega (arith, e))) (λ e. absurd (omega (arith, e))) (λ e. absurd (omega (arith, e))) ∙ link_at f nx CLASS_PREV (link_in f c CLASS_PREV) (have nx there_nx) (omega arith)
-
-    -- the others of the class, with the last one before the first of them
-    run_nx : RunsThrough (class_node g4) (link_in f c CLASS_PREV) (Some nx) (nx ∷ vs) (link_in f c CLASS_PREV) None
-    run_nx = relink_start (class_node f) (class_node g4) (Some c) (Some nx) nx vs (link_in f c CLASS_PREV) None (link_in f c CLASS_PREV) (refl, run_g.2.1, run_g.2.2)
-        (λ t. record { prev = nx_prev t; next = g_next nx t })
-        (each_of _ vs (λ z i t. record { prev = (down_g z CLASS_PREV (λ e. absurd (omega (arith, e))) (λ e. absurd (omega (arith, e))) (λ e. absurd (omega (arith, e))) ∙ link_by f nx CLASS_PREV (link_in f c CLASS_PREV) z CLASS_PREV (λ e. each_in (λ u. nx ≢ u) vs z once_g.1.0 i (sym e))) t; next = g_next z t }))
-
-    there_g1 : (b : ℕ) → IsSome (f b) → IsSome (g1 b)
-    there_g1 b s = touches_there f g1 m xs p touches_1 b s
-
-    long_g1 : (z : ℕ) → IsSome (f z) → length (links_of (g1 z)) ≡ 8
-    long_g1 z s = touches_1.lengths z ∙ have z s
-
-    agree_g : (b j : ℕ) → (j ≡ EVEN) ⊎ ((j ≡ ODD) ⊎ (j ≡ LEADERS)) → link_in g1 b j ≡ link_in f b j
-    agree_g b j o = link_far f nx CLASS_PREV (link_in f c CLASS_PREV) b j (λ e. not_side j o (inr e))
+    -- what is no last one, now or before, leads where it led
+    inner_8 : (z : ℕ) → z ≢ c → (In z ls → ⊥) → link_in h8 z EVEN ≡ link_in f z EVEN
+    inner_8 z w o = link_by h7 l EVEN (Some m) z EVEN (λ e. o (subst (λ u. In u ls) (sym e) l_ls.0)) ∙ taken_inner f m xs t old no_m p h4 l c z w o ∙ put_even l d l_zs d_in.0 fresh z
 
     -- the classes then
-    pub passed_classed : AreClassed g4 m xs' ((at f m xs t old no_m p).hole.fill (Fork nx pa pb))
-    passed_classed = reclassed f g4 m xs t old p xs' ((at f m xs t old no_m p).hole.fill (Fork nx pa pb)) (Some nx) record {
-      keys = touches_keys f g4 m xs p passed_touches;
+    pub longer_classed : AreClassed h8 m xs' then_l
+    longer_classed = reclassed f h8 m xs t old p xs' then_l (Some c) record {
+      keys = touches_keys f h8 m (c ∷ xs) p longer_touches;
       lists = lists;
-      nodes = λ z _ e. passed_touches.nodes z e;
-      tree = lead_tree c pa pb is_x nx key_nx no_nx there_nx nx_not_m g1 there_g1 long_g1 agree_g;
-      sorted = lead_sorted c pa pb is_x nx key_nx no_nx there_nx nx_not_m g1 there_g1 long_g1 agree_g;
-      stay = lead_stay c pa pb is_x nx key_nx no_nx there_nx nx_not_m g1 there_g1 long_g1 agree_g;
-      were = lead_were c pa pb is_x nx key_nx no_nx there_nx nx_not_m g1 there_g1 long_g1 agree_g;
-      heads = lead_heads c pa pb is_x nx key_nx no_nx there_nx nx_not_m g1 there_g1 long_g1 agree_g;
-      headed = lead_headed c pa pb is_x nx key_nx no_nx there_nx nx_not_m g1 there_g1 long_g1 agree_g;
-      run = λ l e. (let s : nx ≡ l = cc in subst (λ ws. RunsRound g4 l ws) (sym inside) (subst (λ u. RunsRound g4 u (nx ∷ vs)) s
-          (subst (λ o. RunsThrough (class_node g4) o (Some nx) (nx ∷ vs) o None) (sym nx_prev) run_nx)));
+      nodes = λ z _ e. longer_touches.nodes z e;
+      tree = tree_8;
+      sorted = lead_sorted l pa pb is_x c (key_same p) no_c there_c not_m h4 there_4 long_4 agree_4;
+      stay = lead_stay l pa pb is_x c (key_same p) no_c there_c not_m h4 there_4 long_4 agree_4;
+      were = lead_were l pa pb is_x c (key_same p) no_c there_c not_m h4 there_4 long_4 agree_4;
+      heads = lead_heads l pa pb is_x c (key_same p) no_c there_c not_m h4 there_4 long_4 agree_4;
+      headed = lead_headed l pa pb is_x c (key_same p) no_c there_c not_m h4 there_4 long_4 agree_4;
+      ring = λ k e. (let s : c ≡ k = cc in subst (λ ws. IsRing h8 k ws) (sym longer) (subst (λ u. IsRing h8 u (zs ++ c ∷ [])) s ring_8));
       none = λ e. absurd cc;
+      kept = λ z e o. inner_8 z (not_own z e c (key_same p)) o;
+      inner = λ z i n. elim (in_snoc z c zs (subst (λ ws. In z ws) longer i)) [
+        | inl j ↦ elim (cases_eq z l) [
+          | inl e ↦ ap (λ u. link_in h8 u EVEN) e ∙ link_at h7 l EVEN (Some m) (touches_7.lengths l ∙ have l (alive l (old.inside l l_ls.0))) (omega arith)
+          | inr o ↦ (let away : In z ls → ⊥ = (λ k. o (lead_one z l k l_ls.0 (zs_in z j).1 l_ls.1)) in inner_8 z (λ e. fresh (subst (λ u. In u xs) e (zs_in z j).0)) away ∙ own_inner z j away)
+        ]
+        | inr e ↦ absurd (n (lead_headed l pa pb is_x c (key_same p) no_c there_c not_m h4 there_4 long_4 agree_4 z (ap Some (sym e))).0)
+      ];
+    }
+
+  -- The last one of a class leaves, and the one before it is the last
+
+  module _ (xs' us : List ℕ) (pr nx : ℕ) (lists : (r : ℕ × ℕ) → is_key r p ≡ false → of_class f r xs' ≡ of_class f r xs) (cut : zs ≡ nx ∷ (us ++ c ∷ [])) (inside : of_class f p xs' ≡ nx ∷ us) (pa pb : ClassTree) (is_x : (place_in f p m t).tree ≡ Fork c pa pb)
+      (prev : link_in f c CLASS_PREV ≡ Some pr) where
+    abbrev s2 : ℕ → Option HeldCell
+    s2 = closed f pr nx
+
+    abbrev s5 : ℕ → Option HeldCell
+    s5 = shortened f (place_in f p m t).holder (place_in f p m t).link c pr nx
+
+    ring_c : IsRing f c (nx ∷ (us ++ c ∷ []))
+    ring_c = subst (λ ws. IsRing f c ws) cut (lead_key c (x_ls c pa pb is_x).0 (x_ls c pa pb is_x).1)
+
+    once_c : Distinct (nx ∷ (us ++ c ∷ []))
+    once_c = subst Distinct cut zs_once
+
+    -- the one before it is the last of the others
+    front_c : (link_in f pr CLASS_NEXT ≡ Some c) × (ws : List ℕ) × (nx ∷ us ≡ ws ++ pr ∷ [])
+    front_c = let w = linked_prev (class_node f) c (nx ∷ us) c [] ring_c.0 pr prev in let r : (ws : List ℕ) × (nx ∷ us ≡ ws ++ pr ∷ []) = elim w.1 [ inl s ↦ absurd (let e = s.0 in cc) | inr s ↦ s ] in (w.0, r.0, r.1)
+
+    rest_in : (z : ℕ) → In z (nx ∷ us) → In z zs
+    rest_in z i = subst (λ ws. In z ws) (sym cut) (in_left z (nx ∷ us) (c ∷ []) i)
+
+    rest_not_c : (z : ℕ) → In z (nx ∷ us) → z ≢ c
+    rest_not_c z i = apart (nx ∷ us) (c ∷ []) z c once_c i (inl refl)
+
+    pr_us : In pr (nx ∷ us)
+    pr_us = ring_last pr (nx ∷ us) front_c.1 front_c.2
+
+    pr_rest : In pr zs
+    pr_rest = rest_in pr pr_us
+
+    nx_rest : In nx zs
+    nx_rest = rest_in nx (inl refl)
+
+    key_pr : is_key (key_in f pr) p ≡ true
+    key_pr = (zs_in pr pr_rest).1
+
+    -- none of them is in the tree
+    no_rest : (z : ℕ) → In z (nx ∷ us) → In z ls → ⊥
+    no_rest z i k = rest_not_c z i (sym (same_lead c pa pb is_x z k (zs_in z (rest_in z i)).1))
+
+    pr_not_m : pr ≢ m
+    pr_not_m e = no_m (subst (λ u. In u xs) e (zs_in pr pr_rest).0)
+
+    pr_there : IsSome (f pr)
+    pr_there = alive pr (zs_in pr pr_rest).0
+
+    touches_2 : Touches f s2 m xs p
+    touches_2 = closed_touches pr nx pr_rest nx_rest
+
+    -- what is left as it was
+    pub shorter_touches : Touches f s5 m xs p
+    shorter_touches = touches_taken f s2 m xs p touches_2 (place_in f p m t).holder (place_in f p m t).link c pr (zs_in pr pr_rest).0 (holds_atoms f m xs t old no_m p)
+
+    node_s : (z : ℕ) → class_node s5 z ≡ class_node s2 z
+    node_s z = λ u. record {
+      prev = taken_place f m xs t old no_m p s2 c pr z CLASS_PREV (λ e. absurd (omega (arith, e))) (λ e. absurd (omega (arith, e))) (λ e. absurd (omega (arith, e))) u;
+      next = taken_place f m xs t old no_m p s2 c pr z CLASS_NEXT (λ e. absurd (omega (arith, e))) (λ e. absurd (omega (arith, e))) (λ e. absurd (omega (arith, e))) u;
+    }
+
+    ring_s : IsRing s5 pr (nx ∷ us)
+    ring_s = (
+      linked_frame (class_node s2) (class_node s5) pr (nx ∷ us) (λ z _. node_s z) (close_last (class_node f) (class_node s2) pr nx c (closed_node pr nx pr_rest nx_rest) front_c.0 prev us once_c ring_c.0),
+      front_c.1,
+      front_c.2,
+    )
+
+    there_2 : (b : ℕ) → IsSome (f b) → IsSome (s2 b)
+    there_2 b s = touches_there f s2 m xs p touches_2 b s
+
+    long_2 : (z : ℕ) → IsSome (f z) → length (links_of (s2 z)) ≡ 8
+    long_2 z s = touches_2.lengths z ∙ have z s
+
+    agree_2 : (b j : ℕ) → (j ≡ EVEN) ⊎ ((j ≡ ODD) ⊎ (j ≡ LEADERS)) → link_in s2 b j ≡ link_in f b j
+    agree_2 b j o = closed_same pr nx pr_rest nx_rest b j (λ e. not_side j o (inl e)) (λ e. not_side j o (inr e))
+
+    inner_s : (z : ℕ) → z ≢ pr → (In z ls → ⊥) → link_in s5 z EVEN ≡ link_in f z EVEN
+    inner_s z d o = taken_inner f m xs t old no_m p s2 c pr z d o ∙ closed_even pr nx pr_rest nx_rest z
+
+    -- the classes then
+    pub shorter_classed : AreClassed s5 m xs' ((at f m xs t old no_m p).hole.fill (Fork pr pa pb))
+    shorter_classed = reclassed f s5 m xs t old p xs' ((at f m xs t old no_m p).hole.fill (Fork pr pa pb)) (Some pr) record {
+      keys = touches_keys f s5 m xs p shorter_touches;
+      lists = lists;
+      nodes = λ z _ e. shorter_touches.nodes z e;
+      tree = lead_tree c pa pb is_x pr key_pr (no_rest pr pr_us) pr_there pr_not_m s2 there_2 long_2 agree_2;
+      sorted = lead_sorted c pa pb is_x pr key_pr (no_rest pr pr_us) pr_there pr_not_m s2 there_2 long_2 agree_2;
+      stay = lead_stay c pa pb is_x pr key_pr (no_rest pr pr_us) pr_there pr_not_m s2 there_2 long_2 agree_2;
+      were = lead_were c pa pb is_x pr key_pr (no_rest pr pr_us) pr_there pr_not_m s2 there_2 long_2 agree_2;
+      heads = lead_heads c pa pb is_x pr key_pr (no_rest pr pr_us) pr_there pr_not_m s2 there_2 long_2 agree_2;
+      headed = lead_headed c pa pb is_x pr key_pr (no_rest pr pr_us) pr_there pr_not_m s2 there_2 long_2 agree_2;
+      ring = λ k e. (let s : pr ≡ k = cc in subst (λ ws. IsRing s5 k ws) (sym inside) (subst (λ u. IsRing s5 u (nx ∷ us)) s ring_s));
+      none = λ e. absurd cc;
+      kept = λ z e o. inner_s z (not_own z e pr key_pr) o;
+      inner = λ z i n. (let j : In z (nx ∷ us) = subst (λ ws. In z ws) inside i in
+          inner_s z (λ e. n (lead_headed c pa pb is_x pr key_pr (no_rest pr pr_us) pr_there pr_not_m s2 there_2 long_2 agree_2 z (ap Some (sym e))).0) (no_rest z j) ∙ own_inner z (rest_in z j) (no_rest z j));
     }
 
   -- The only one of a class leaves
@@ -757,7 +626,8 @@ module _ (f : ℕ → Option HeldCell) (m c : ℕ) (xs : List ℕ) (t : ClassTre
 
     -- another tree there, with the same cells but the first of the class
     module _ (g : ℕ → Option HeldCell) (touched : Touches f g m xs p) (u : ClassTree) (sub : (z : ℕ) → In z (leaders pa ++ leaders pb) → In z (leaders u)) (sup : (z : ℕ) → In z (leaders u) → In z (leaders pa ++ leaders pb))
-        (tree : IsTree g (link_in g m LEADERS) ((at f m xs t old no_m p).hole.fill u)) (sorted : IsSorted f (place_in f p m t).depth u) where
+        (tree : IsTree g (link_in g m LEADERS) ((at f m xs t old no_m p).hole.fill u)) (sorted : IsSorted f (place_in f p m t).depth u)
+        (even : (z : ℕ) → (In z ls → ⊥) → link_in g z EVEN ≡ link_in f z EVEN) where
       sub_k : (z : ℕ) → is_key (key_in f z) p ≡ false → In z (leaders (place_in f p m t).tree) → In z (leaders u)
       sub_k z e i = elim (of_x c pa pb is_x z i) [ inl s ↦ absurd (other_lead c pa pb is_x z e s) | inr j ↦ sub z j ]
 
@@ -775,13 +645,18 @@ module _ (f : ℕ → Option HeldCell) (m c : ℕ) (xs : List ℕ) (t : ClassTre
         were = fill_were f m xs t old no_m p u sub_k sup_k;
         heads = fill_heads f m xs t old no_m p u None (λ z e i. absurd (let w : true ≡ false = sym e ∙ below_x c pa pb is_x z (sup z i) in cc));
         headed = λ l e. absurd cc;
-        run = λ l e. absurd cc;
+        ring = λ l e. absurd cc;
         none = λ e. inside;
+        kept = λ z _ n. even z n;
+        inner = λ z i _. absurd (nothing_in (of_class f p xs') inside z i);
       }
 
     -- the cells of the tree are those of a list of atoms
+    below_ls : (z : ℕ) → In z (leaders pa ++ leaders pb) → In z ls
+    below_ls z i = tree_in f m xs t old no_m p z (in_x c pa pb is_x z (inr i))
+
     below_xs : (z : ℕ) → In z (leaders pa ++ leaders pb) → In z xs
-    below_xs z i = old.inside z (tree_in f m xs t old no_m p z (in_x c pa pb is_x z (inr i)))
+    below_xs z i = old.inside z (below_ls z i)
 
     below_outer : (z : ℕ) → In z (leaders pa ++ leaders pb) → In z (at f m xs t old no_m p).hole.outer → ⊥
     below_outer z i o = (at f m xs t old no_m p).hole.apart z o (in_x c pa pb is_x z (inr i))
@@ -802,7 +677,7 @@ module _ (f : ℕ → Option HeldCell) (m c : ℕ) (xs : List ℕ) (t : ClassTre
       bare_touches = touches_k1
 
       pub bare_classed : AreClassed k1 m xs' ((at f m xs t old no_m p).hole.fill Bare)
-      bare_classed = gone_classed k1 touches_k1 Bare (λ z i. subst (λ us. In z us) bare i) (λ z i. absurd i) k1_tree tt
+      bare_classed = gone_classed k1 touches_k1 Bare (λ z i. subst (λ us. In z us) bare i) (λ z i. absurd i) k1_tree tt (λ z n. place_inner f m xs t old no_m p f None z n)
 
     -- One that is below it takes its place
 
@@ -844,6 +719,8 @@ module _ (f : ℕ → Option HeldCell) (m c : ℕ) (xs : List ℕ) (t : ClassTre
       leaf_classed = gone_classed k3 leaf_touches (Fork l a b) all (λ z i. elim i [ inl s ↦ subst (λ y. In y (leaders pa ++ leaders pb)) s leaf | inr j ↦ below z j ])
           (taken_tree f m xs t old no_m p k2 c l a b (λ z s. touches_there f k2 m xs p touches_k2 z s) (λ z s. touches_k2.lengths z ∙ have z s) outside even odd (λ z i. in_x c pa pb is_x z (inr (below z i))) (alive l (below_xs l leaf))
           (λ e. no_m (subst (λ y. In y xs) e (below_xs l leaf))) (below_outer l leaf) gone (there_x c pa pb is_x)) sorted
+          (λ z n. taken_inner f m xs t old no_m p k2 c l z (λ e. n (subst (λ u. In u ls) (sym e) (below_ls l leaf))) n ∙ holds_inner m (c ∷ (leaders pa ++ leaders pb)) lh lk holds f None z
+          (λ i. n (elim i [ inl s ↦ subst (λ u. In u ls) s (x_ls c pa pb is_x).0 | inr j ↦ below_ls z j ])))
 
   -- That one hangs on one of its two sides, near
 

@@ -1,55 +1,49 @@
 -- The calls that file an atom by its class.
 use Rattle.std.proofs.Common.{◌≡◌, ◌⊎◌, ◌<◌, ℕ, suc, true, false, List, [], ◌∷◌, ◌++◌, length, Option, Some, None, IsSome, refl, sym, ap, subst, ◌∙◌, inl, inr, arith}
 use Rattle.lmn_base.specs.Lists.{In}
-use Rattle.lmn_base.proofs.Lists.{plus_nothing}
+use Rattle.std.proofs.lemmas.Option.{same_Some}
+use Rattle.lmn_base.proofs.Lists.{last_one, plus_nothing}
 use Rattle.lmn_store_heap.specs.Lists.{Distinct, without}
-use Rattle.lmn_store_heap.proofs.ListLemmas.{in_split, in_right, without_at}
+use Rattle.lmn_store_heap.proofs.ListLemmas.{apart, in_split, without_at}
 use Rattle.lmn_web_cells.specs.Cells.{HeldCell, HaveLinks, IsLinkWord, link_of, numbers_of}
-use Rattle.lmn_web_cells.specs.Runs.{Node, RunsThrough, link_in, put_before}
-use Rattle.lmn_web_cells.proofs.RunLemmas.{before_behind, prev_in, last_next, split, last_in as last_of_run}
+use Rattle.lmn_web_cells.specs.Runs.{link_in, put_before}
 use Rattle.lmn_web_cells.proofs.InsertLemmas.{put_at}
-use Rattle.lmn_web.specs.Classes.{ClassTree, Bare, Fork, Hung, leaders, top, IsTree, IsSorted, lowest_below, class_node, key_in, is_key, of_class, RunsRound, place_in, begun, lengthened, put_between, put_first, closed, shortened, passed, dropped, MayFile, LeadsClass, ClassBecomes, Refiled}
+use Rattle.lmn_web.specs.Classes.{ClassTree, Bare, Fork, Hung, leaders, top, IsTree, IsSorted, lowest_below, class_node, key_in, is_key, of_class, ends_class, Linked, IsRing, place_in, begun, lengthened, put_inside, closed, shortened, dropped, MayFile, ClassBecomes, Refiled}
 use Rattle.lmn_web_cells.specs.Links.{CLASS_NEXT, CLASS_PREV, EVEN, ODD, LEADERS}
-use Rattle.lmn_web.proofs.Reclassing.{key_same, key_true, run_head}
-use Rattle.lmn_web.proofs.ClassTrees.{beside_not, some_lowest}
+use Rattle.lmn_web.proofs.Reclassing.{key_same, key_true}
+use Rattle.lmn_web.proofs.Rings.{linked_prev, linked_next, linked_some, ring_last, ring_first, ring_some, ring_prev, ring_next, ring_next_some, ring_end}
+use Rattle.lmn_web.proofs.ClassEnds.{lead_ends, ends_lead, even_alive}
+use Rattle.lmn_web.proofs.ClassTrees.{beside_not, some_lowest, sorted_apart}
 use Rattle.lmn_web.proofs.ClassPlaces.{at, fork_of, holds_there, holds_atoms, link_small, leader_in, class_none}
-use Rattle.lmn_web.proofs.ClassRuns.{inside_classed, inside_touches, first_classed, first_touches, prev_among, next_in_run, closed_classed, closed_touches, shortened_classed, shortened_touches, passed_classed, passed_touches, bare_classed, bare_touches, side_filed, begun_classed, begun_touches, longer_classed, longer_touches}
+use Rattle.lmn_web.proofs.ClassRuns.{inside_classed, inside_touches, closed_classed, closed_touches, shorter_classed, shorter_touches, bare_classed, bare_touches, side_filed, begun_classed, begun_touches, longer_classed, longer_touches}
 use Rattle.lmn_store_heap.proofs.Filters.{in_filter, filter_in, distinct_filter}
 
--- the first one of a class that is found, with the run of the class
+-- the last one of a class that is found, with the ring of the class
 pub record Leads (f : ℕ → Option HeldCell) (xs : List ℕ) (t : ClassTree) (p : ℕ × ℕ) (l : ℕ) : Type 0 where
   pub inside : In l (leaders t)
   pub key : is_key (key_in f l) p ≡ true
   pub alive : IsSome (f l)
-  pub run : RunsRound f l (of_class f p xs)
+  pub ring : IsRing f l (of_class f p xs)
 
 pub leads : (f : ℕ → Option HeldCell) (m c : ℕ) (xs : List ℕ) (t : ClassTree) → MayFile f m c xs t → (p : ℕ × ℕ) (l : ℕ) → top (place_in f p m t).tree ≡ Some l → Leads f xs t p l
 leads f m c xs t a p l e = let w = leader_in f m xs t a.classed a.no_m p l e in record {
   inside = w.0;
   key = w.1;
   alive = a.alive l (a.classed.inside l w.0);
-  run = subst (λ q. RunsRound f l (of_class f q xs)) (key_true (key_in f l) p w.1) (a.classed.runs l w.0);
+  ring = subst (λ q. IsRing f l (of_class f q xs)) (key_true (key_in f l) p w.1) (a.classed.rings l w.0);
 }
 
--- its last one is there
-pub last_alive : (f : ℕ → Option HeldCell) (m c : ℕ) (xs : List ℕ) (t : ClassTree) → MayFile f m c xs t → (p : ℕ × ℕ) (l : ℕ) → top (place_in f p m t).tree ≡ Some l → (q : ℕ) → link_in f l CLASS_PREV ≡ Some q → IsSome (f q)
-last_alive f m c xs t a p l e q s =
-    let w = leads f m c xs t a p l e in let o = link_in f l CLASS_PREV in
-    let h = run_head (class_node f) o l (of_class f p xs) o w.run in
-    let r : RunsThrough (class_node f) o (Some l) (l ∷ h.0) o None = subst (λ us. RunsThrough (class_node f) o (Some l) us o None) h.1 w.run in
-    a.alive q (in_filter (λ z. is_key (key_in f z) p) q xs (subst (λ us. In q us) (sym h.1) (before_behind (class_node f) o (Some l) l h.0 o None q r s))).0
-
--- a run that has cells has a last one
-no_last : (n : ℕ → Node) (b first : Option ℕ) (z : ℕ) (zs : List ℕ) (o : Option ℕ) → RunsThrough n b first (z ∷ zs) o None → o ≡ None → ⊥
-no_last n b first z [] o r s = let e : ◌≡◌ {A = Option ℕ} None (Some z) = sym s ∙ r.2.1 in absurd cc
-no_last n b first z (y ∷ zs) o r s = no_last n (Some z) (n z).next y zs o r.2 s
+-- its first one is there
+pub first_alive : (f : ℕ → Option HeldCell) (m c : ℕ) (xs : List ℕ) (t : ClassTree) → MayFile f m c xs t → (p : ℕ × ℕ) (l : ℕ) → top (place_in f p m t).tree ≡ Some l → (d : ℕ) → link_in f l CLASS_NEXT ≡ Some d → IsSome (f d)
+first_alive f m c xs t a p l e d s =
+    let w = leads f m c xs t a p l e in
+    a.alive d (in_filter (λ z. is_key (key_in f z) p) d xs (ring_first (class_node f) l (of_class f p xs) w.ring.1 w.ring.2 w.ring.0 d s).0).0
 
 -- and there is one
-pub last_some : (f : ℕ → Option HeldCell) (m c : ℕ) (xs : List ℕ) (t : ClassTree) → MayFile f m c xs t → (p : ℕ × ℕ) (l : ℕ) → top (place_in f p m t).tree ≡ Some l → link_in f l CLASS_PREV ≡ None → ⊥
-last_some f m c xs t a p l e s =
-    let w = leads f m c xs t a p l e in let o = link_in f l CLASS_PREV in
-    let h = run_head (class_node f) o l (of_class f p xs) o w.run in
-    no_last (class_node f) o (Some l) l h.0 o (subst (λ us. RunsThrough (class_node f) o (Some l) us o None) h.1 w.run) s
+pub first_some : (f : ℕ → Option HeldCell) (m c : ℕ) (xs : List ℕ) (t : ClassTree) → MayFile f m c xs t → (p : ℕ × ℕ) (l : ℕ) → top (place_in f p m t).tree ≡ Some l → link_in f l CLASS_NEXT ≡ None → ⊥
+first_some f m c xs t a p l e s =
+    let w = leads f m c xs t a p l e in let r = ring_some (class_node f) l (of_class f p xs) w.ring.1 w.ring.2 w.ring.0 in
+    let z : ◌≡◌ {A = Option ℕ} None (Some r.0) = sym s ∙ r.1 in cc
 
 -- an atom begins a class
 pub filed_begun : (f : ℕ → Option HeldCell) → HaveLinks f → (m c : ℕ) (xs : List ℕ) (t : ClassTree) (xs' : List ℕ) → MayFile f m c xs t → (In c xs → ⊥) → ClassBecomes f (key_in f c) xs (of_class f (key_in f c) xs ++ c ∷ []) xs' → top (place_in f (key_in f c) m t).tree ≡ None
@@ -62,20 +56,20 @@ filed_begun f have m c xs t xs' a fresh one none =
       classed = begun_classed f m c xs t have a.classed a.alive a.once a.there_m a.there_c a.no_m a.not_m xs' one.others alone fresh none;
     }
 
--- or stands at its end
-pub filed_longer : (f : ℕ → Option HeldCell) → HaveLinks f → (m c : ℕ) (xs : List ℕ) (t : ClassTree) (xs' : List ℕ) → MayFile f m c xs t → (In c xs → ⊥) → ClassBecomes f (key_in f c) xs (of_class f (key_in f c) xs ++ c ∷ []) xs' → (l q : ℕ) → top (place_in f (key_in f c) m t).tree ≡ Some l
-    → link_in f l CLASS_PREV ≡ Some q → Refiled f (lengthened f l q c) m (c ∷ xs) (key_in f c) xs'
-filed_longer f have m c xs t xs' a fresh one l q e s =
-    let w = leads f m c xs t a (key_in f c) l e in
+-- or is the last one of it
+pub filed_longer : (f : ℕ → Option HeldCell) → HaveLinks f → (m c : ℕ) (xs : List ℕ) (t : ClassTree) (xs' : List ℕ) → MayFile f m c xs t → (In c xs → ⊥) → ClassBecomes f (key_in f c) xs (of_class f (key_in f c) xs ++ c ∷ []) xs' → (l d : ℕ) → top (place_in f (key_in f c) m t).tree ≡ Some l
+    → link_in f l CLASS_NEXT ≡ Some d → Refiled f (lengthened f m (place_in f (key_in f c) m t).holder (place_in f (key_in f c) m t).link l d c) m (c ∷ xs) (key_in f c) xs'
+filed_longer f have m c xs t xs' a fresh one l d e s =
+    let y = fork_of (place_in f (key_in f c) m t).tree l e in
     record {
-      touches = longer_touches f m c xs t have a.classed a.alive a.once a.there_m a.there_c a.no_m a.not_m xs' l q one.others one.own fresh w.inside w.key s;
-      tree = t;
-      classed = longer_classed f m c xs t have a.classed a.alive a.once a.there_m a.there_c a.no_m a.not_m xs' l q one.others one.own fresh w.inside w.key s;
+      touches = longer_touches f m c xs t have a.classed a.alive a.once a.there_m a.there_c a.no_m a.not_m xs' l d one.others one.own fresh y.0 y.1 y.2 s;
+      tree = _;
+      classed = longer_classed f m c xs t have a.classed a.alive a.once a.there_m a.there_c a.no_m a.not_m xs' l d one.others one.own fresh y.0 y.1 y.2 s;
     }
 
 -- An atom that is filed
 
--- its class has a first one
+-- its class has a last one
 pub lead_is : (f : ℕ → Option HeldCell) (m c : ℕ) (xs : List ℕ) (t : ClassTree) → MayFile f m c xs t → In c xs → (l : ℕ) × (top (place_in f (key_in f c) m t).tree ≡ Some l)
 lead_is f m c xs t a i = by (top (place_in f (key_in f c) m t).tree) refl
   where
@@ -115,7 +109,7 @@ pub record Among (f : ℕ → Option HeldCell) (m : ℕ) (xs : List ℕ) (t : Cl
   pub l : ℕ
   pub lead : top (place_in f (key_in f c) m t).tree ≡ Some l
   pub leads : Leads f xs t (key_in f c) l
-  pub run : RunsRound f l (us ++ (c ∷ vs))
+  pub ring : IsRing f l (us ++ (c ∷ vs))
 
 pub among : (f : ℕ → Option HeldCell) (m c : ℕ) (xs : List ℕ) (t : ClassTree) → MayFile f m c xs t → In c xs → Among f m xs t c
 among f m c xs t a i =
@@ -130,7 +124,7 @@ among f m c xs t a i =
       l = l.0;
       lead = l.1;
       leads = w;
-      run = subst (λ us. RunsRound f l.0 us) s.2 w.run;
+      ring = subst (λ us. IsRing f l.0 us) s.2 w.ring;
     }
 
 -- an atom of its class is there
@@ -139,111 +133,98 @@ class_alive f m c xs t a w z i = a.alive z (in_filter (λ y. is_key (key_in f y)
 
 -- what stands before it is there
 pub prev_alive : (f : ℕ → Option HeldCell) (m c : ℕ) (xs : List ℕ) (t : ClassTree) → MayFile f m c xs t → In c xs → (q : ℕ) → link_in f c CLASS_PREV ≡ Some q → IsSome (f q)
-prev_alive f m c xs t a i q e = let w = among f m c xs t a i in class_alive f m c xs t a w q (prev_among (class_node f) (Some w.l) w.us c w.vs (link_in f w.l CLASS_PREV) w.run q e)
+prev_alive f m c xs t a i q e = let w = among f m c xs t a i in class_alive f m c xs t a w q (ring_prev (class_node f) w.l w.us c w.vs w.ring.1 w.ring.0 w.ring.2 q e)
 
--- and what stands behind it
+-- and is filed too
+pub prev_inside : (f : ℕ → Option HeldCell) (m c : ℕ) (xs : List ℕ) (t : ClassTree) → MayFile f m c xs t → In c xs → (q : ℕ) → link_in f c CLASS_PREV ≡ Some q → In q xs × (is_key (key_in f q) (key_in f c) ≡ true)
+prev_inside f m c xs t a i q e =
+    let w = among f m c xs t a i in
+    in_filter (λ y. is_key (key_in f y) (key_in f c)) q xs (subst (λ us. In q us) (sym w.is) (ring_prev (class_node f) w.l w.us c w.vs w.ring.1 w.ring.0 w.ring.2 q e))
+
+-- what stands behind it is there
 pub next_alive : (f : ℕ → Option HeldCell) (m c : ℕ) (xs : List ℕ) (t : ClassTree) → MayFile f m c xs t → In c xs → (q : ℕ) → link_in f c CLASS_NEXT ≡ Some q → IsSome (f q)
-next_alive f m c xs t a i q e = let w = among f m c xs t a i in class_alive f m c xs t a w q (in_right q w.us (c ∷ w.vs) (inr (next_in_run (class_node f) (link_in f w.l CLASS_PREV) (Some w.l) w.us c w.vs (link_in f w.l CLASS_PREV) w.run q e)))
+next_alive f m c xs t a i q e = let w = among f m c xs t a i in class_alive f m c xs t a w q (ring_next (class_node f) w.l w.us c w.vs w.ring.1 w.ring.0 w.ring.2 q e)
 
 -- something stands before it
 pub prev_some : (f : ℕ → Option HeldCell) (m c : ℕ) (xs : List ℕ) (t : ClassTree) → MayFile f m c xs t → In c xs → link_in f c CLASS_PREV ≡ None → ⊥
-prev_some f m c xs t a i e = let w = among f m c xs t a i in by (Some w.l) w.us w.vs (link_in f w.l CLASS_PREV) w.run
-  where
-    by : (first : Option ℕ) (us vs : List ℕ) (o : Option ℕ) → RunsThrough (class_node f) o first (us ++ (c ∷ vs)) o None → ⊥
-    by first [] vs o r = no_last (class_node f) o first c vs o r (sym r.1 ∙ e)
-    by first (u ∷ us) vs o r =
-        let s = split (class_node f) o first (u ∷ us) (c ∷ vs) o None r in
-        let w = last_of_run (class_node f) o first u us s.0 s.1 s.2 in absurd (let z : ◌≡◌ {A = Option ℕ} None (Some w.0) = sym e ∙ s.3.1 ∙ w.1 in cc)
+prev_some f m c xs t a i e =
+    let w = among f m c xs t a i in let r = linked_some (class_node f) w.l w.us c w.vs w.ring.0 in
+    let z : ◌≡◌ {A = Option ℕ} None (Some r.0) = sym e ∙ r.1 in cc
 
--- where nothing follows what stands before it, it is the first
-no_front : (h : ℕ → Node) (first : Option ℕ) (us : List ℕ) (d : ℕ) (vs : List ℕ) (last : Option ℕ) → RunsThrough h last first (us ++ (d ∷ vs)) last None → (q : ℕ) → (h d).prev ≡ Some q → (h q).next ≡ None → us ≡ []
-no_front h first [] d vs last r q e n = refl
-no_front h first (u ∷ us) d vs last r q e n = absurd (let z : ◌≡◌ {A = Option ℕ} None (Some d) = sym n ∙ (prev_in h last first u us d vs last r q e).1 in cc)
+-- and behind it
+pub next_some : (f : ℕ → Option HeldCell) (m c : ℕ) (xs : List ℕ) (t : ClassTree) → MayFile f m c xs t → In c xs → link_in f c CLASS_NEXT ≡ None → ⊥
+next_some f m c xs t a i e =
+    let w = among f m c xs t a i in let r = ring_next_some (class_node f) w.l w.us c w.vs w.ring.1 w.ring.0 w.ring.2 in
+    let z : ◌≡◌ {A = Option ℕ} None (Some r.0) = sym e ∙ r.1 in cc
 
--- and where something does, it isn't
-some_front : (h : ℕ → Node) (l : ℕ) (us : List ℕ) (d : ℕ) (vs : List ℕ) (last : Option ℕ) → RunsThrough h last (Some l) (us ++ (d ∷ vs)) last None → (q : ℕ) → (h d).prev ≡ Some q → IsSome (h q).next → (ws : List ℕ) × (us ≡ l ∷ ws)
-some_front h l [] d vs last r q e n = absurd (none_some (h q).next (last_next h last (Some l) d vs last None q r (sym r.1 ∙ e)) n)
-  where
-    none_some : (o : Option ℕ) → o ≡ None → IsSome o → ⊥
-    none_some None s t = absurd cc
-    none_some (Some x) s t = absurd cc
-some_front h l (u ∷ us) d vs last r q e n = (us, let z : ◌≡◌ {A = Option ℕ} (Some l) (Some u) = r.0 in let w : u ≡ l = cc in ap (λ y. y ∷ us) w)
+-- what is read to tell whether it is the last one is there
+pub even_there : (f : ℕ → Option HeldCell) (m c : ℕ) (xs : List ℕ) (t : ClassTree) → MayFile f m c xs t → In c xs → (d : ℕ) → link_in f c EVEN ≡ Some d → IsSome (f d)
+even_there f m c xs t a i d e = even_alive f m xs t a.classed a.kinds a.home a.there_m a.alive c i d e
 
--- what stands behind it, by its link
-back_is : (h : ℕ → Node) (before first : Option ℕ) (us : List ℕ) (d : ℕ) (vs : List ℕ) (last : Option ℕ) → RunsThrough h before first (us ++ (d ∷ vs)) last None → (o : Option ℕ) → (h d).next ≡ o → (o ≡ None → vs ≡ []) × ((n : ℕ) → o ≡ Some n → (ws : List ℕ) × (vs ≡ n ∷ ws))
-back_is h before first us d vs last r o e = by vs (split h before first us (d ∷ vs) last None r).3.2
-  where
-    by : (ws : List ℕ) → RunsThrough h (Some d) (h d).next ws last None → (o ≡ None → ws ≡ []) × ((n : ℕ) → o ≡ Some n → (vs' : List ℕ) × (ws ≡ n ∷ vs'))
-    by [] q = (λ _. refl, λ n s. absurd (let z : ◌≡◌ {A = Option ℕ} (Some n) None = sym s ∙ sym e ∙ q.0 in cc))
-    by (y ∷ ws) q = (λ s. absurd (let z : ◌≡◌ {A = Option ℕ} (Some y) None = sym q.0 ∙ e ∙ s in cc), λ n s. (ws, let z : ◌≡◌ {A = Option ℕ} (Some y) (Some n) = sym q.0 ∙ e ∙ s in let r : y ≡ n = cc in ap (λ u. u ∷ ws) r))
+-- the last one of its class is found
+pub last_is : (f : ℕ → Option HeldCell) (m c : ℕ) (xs : List ℕ) (t : ClassTree) → MayFile f m c xs t → (w : Among f m xs t c) → (z : ℕ) → In z xs → is_key (key_in f z) (key_in f c) ≡ true → ends_class f z ≡ true → w.l ≡ z
+last_is f m c xs t a w z i e n =
+    sorted_apart f 0 t a.classed.sorted w.l z w.leads.inside (ends_lead f m xs t a.classed a.kinds a.home z i n) (key_true (key_in f w.l) (key_in f c) w.leads.key ∙ sym (key_true (key_in f z) (key_in f c) e))
 
--- behind the first one
-record Behind (f : ℕ → Option HeldCell) (xs : List ℕ) (c l : ℕ) (vs : List ℕ) : Type 0 where
-  pub us : List ℕ
-  pub is : of_class f (key_in f c) xs ≡ l ∷ (us ++ (c ∷ vs))
-  pub once : Distinct (l ∷ (us ++ (c ∷ vs)))
-
-behind : (f : ℕ → Option HeldCell) (m c : ℕ) (xs : List ℕ) (t : ClassTree) (w : Among f m xs t c) (q : ℕ) → link_in f c CLASS_PREV ≡ Some q → IsSome (link_in f q CLASS_NEXT) → Behind f xs c w.l w.vs
-behind f m c xs t w q e n = let s = some_front (class_node f) w.l w.us c w.vs (link_in f w.l CLASS_PREV) w.run q e n in
-    record { us = s.0; is = w.is ∙ ap (λ us. us ++ (c ∷ w.vs)) s.1; once = subst (λ us. Distinct (us ++ (c ∷ w.vs))) s.1 w.once }
-
--- it leaves from between two
-pub filed_closed : (f : ℕ → Option HeldCell) → HaveLinks f → (m c : ℕ) (xs : List ℕ) (t : ClassTree) (xs' : List ℕ) → MayFile f m c xs t → In c xs → ClassBecomes f (key_in f c) xs (without c (of_class f (key_in f c) xs)) xs' → (pr nx : ℕ) → link_in f c CLASS_PREV ≡ Some pr → IsSome (link_in f pr CLASS_NEXT) → link_in f c CLASS_NEXT ≡ Some nx
+-- it leaves, and isn't the last
+pub filed_closed : (f : ℕ → Option HeldCell) → HaveLinks f → (m c : ℕ) (xs : List ℕ) (t : ClassTree) (xs' : List ℕ) → MayFile f m c xs t → In c xs → ClassBecomes f (key_in f c) xs (without c (of_class f (key_in f c) xs)) xs' → (pr nx : ℕ) → link_in f c CLASS_PREV ≡ Some pr → link_in f c CLASS_NEXT ≡ Some nx → ends_class f c ≡ false
     → Refiled f (closed f pr nx) m xs (key_in f c) xs'
-filed_closed f have m c xs t xs' a i one pr nx prev some next =
-    let w = among f m c xs t a i in let b = behind f m c xs t w pr prev some in
-    let inside : of_class f (key_in f c) xs' ≡ w.l ∷ (b.us ++ w.vs) = one.own ∙ ap (without c) b.is ∙ without_at (w.l ∷ b.us) c w.vs b.once in
+filed_closed f have m c xs t xs' a i one pr nx prev next inner =
+    let w = among f m c xs t a i in
+    let behind : (ws : List ℕ) × (w.vs ≡ nx ∷ ws) = elim (linked_next (class_node f) w.l w.us c w.vs w.ring.0 nx next) [
+      | inl s ↦ absurd (
+          let same : w.us ++ c ∷ [] ≡ w.ring.1 ++ w.l ∷ [] = ap (λ ws. w.us ++ (c ∷ ws)) (sym s) ∙ w.ring.2 in
+          let z : true ≡ false = sym (lead_ends f m xs t a.classed a.kinds a.home w.l w.leads.inside) ∙ ap (ends_class f) (sym (last_one w.us w.ring.1 c w.l same).1) ∙ inner in cc
+          )
+      | inr s ↦ s
+    ] in
+    let cut : of_class f (key_in f c) xs ≡ w.us ++ (c ∷ nx ∷ behind.0) = w.is ∙ ap (λ ws. w.us ++ (c ∷ ws)) behind.1 in
+    let inside : of_class f (key_in f c) xs' ≡ w.us ++ (nx ∷ behind.0) = one.own ∙ ap (without c) cut ∙ without_at w.us c (nx ∷ behind.0) (subst (λ ws. Distinct (w.us ++ (c ∷ ws))) behind.1 w.once) in
+    let pr_in : In pr (of_class f (key_in f c) xs) = subst (λ us. In pr us) (sym w.is) (ring_prev (class_node f) w.l w.us c w.vs w.ring.1 w.ring.0 w.ring.2 pr prev) in
+    let nx_in : In nx (of_class f (key_in f c) xs) = subst (λ us. In nx us) (sym w.is) (ring_next (class_node f) w.l w.us c w.vs w.ring.1 w.ring.0 w.ring.2 nx next) in
     record {
-      touches = closed_touches f m c xs t have a.classed a.alive a.once a.there_m a.there_c a.no_m a.not_m xs' b.us w.vs w.l pr nx one.others b.is inside w.leads.inside w.leads.key prev next;
+      touches = closed_touches f m c xs t have a.classed a.alive a.once a.there_m a.there_c a.no_m a.not_m pr nx pr_in nx_in;
       tree = t;
-      classed = closed_classed f m c xs t have a.classed a.alive a.once a.there_m a.there_c a.no_m a.not_m xs' b.us w.vs w.l pr nx one.others b.is inside w.leads.inside w.leads.key prev next;
+      classed = closed_classed f m c xs t have a.classed a.alive a.once a.there_m a.there_c a.no_m a.not_m pr nx pr_in nx_in xs' w.us behind.0 w.l one.others cut inside w.leads.inside w.leads.key prev;
     }
 
--- or from the end
-pub filed_shortened : (f : ℕ → Option HeldCell) → HaveLinks f → (m c : ℕ) (xs : List ℕ) (t : ClassTree) (xs' : List ℕ) → MayFile f m c xs t → In c xs → ClassBecomes f (key_in f c) xs (without c (of_class f (key_in f c) xs)) xs' → (l pr : ℕ) → top (place_in f (key_in f c) m t).tree ≡ Some l
-    → link_in f c CLASS_PREV ≡ Some pr → IsSome (link_in f pr CLASS_NEXT) → link_in f c CLASS_NEXT ≡ None → Refiled f (shortened f l pr) m xs (key_in f c) xs'
-filed_shortened f have m c xs t xs' a i one l pr lead prev some next =
-    let w = among f m c xs t a i in let b = behind f m c xs t w pr prev some in
-    let same : w.l ≡ l = let e : ◌≡◌ {A = Option ℕ} (Some w.l) (Some l) = sym w.lead ∙ lead in cc in
-    let none : w.vs ≡ [] = (back_is (class_node f) (link_in f w.l CLASS_PREV) (Some w.l) w.us c w.vs (link_in f w.l CLASS_PREV) w.run None next).0 refl in
-    let cut : of_class f (key_in f c) xs ≡ w.l ∷ (b.us ++ c ∷ []) = b.is ∙ ap (λ us. w.l ∷ (b.us ++ (c ∷ us))) none in
-    let inside : of_class f (key_in f c) xs' ≡ w.l ∷ b.us = one.own ∙ ap (without c) b.is ∙ without_at (w.l ∷ b.us) c w.vs b.once ∙ ap (λ us. w.l ∷ (b.us ++ us)) none ∙ plus_nothing (w.l ∷ b.us) in
-    subst (λ z. Refiled f (shortened f z pr) m xs (key_in f c) xs') same record {
-      touches = shortened_touches f m c xs t have a.classed a.alive a.once a.there_m a.there_c a.no_m a.not_m xs' b.us w.l pr one.others cut inside w.leads.inside w.leads.key prev next;
-      tree = t;
-      classed = shortened_classed f m c xs t have a.classed a.alive a.once a.there_m a.there_c a.no_m a.not_m xs' b.us w.l pr one.others cut inside w.leads.inside w.leads.key prev next;
-    }
+-- The last one leaves
 
--- the first one of a class
-front_is : (f : ℕ → Option HeldCell) (m c : ℕ) (xs : List ℕ) (t : ClassTree) (w : Among f m xs t c) → LeadsClass f c → (of_class f (key_in f c) xs ≡ c ∷ w.vs) × (top (place_in f (key_in f c) m t).tree ≡ Some c)
-front_is f m c xs t w first =
-    let o = link_in f w.l CLASS_PREV in
-    let none : w.us ≡ [] = no_front (class_node f) (Some w.l) w.us c w.vs o w.run first.0 first.1 first.2 in
-    let r : RunsThrough (class_node f) o (Some w.l) (c ∷ w.vs) o None = subst (λ us. RunsThrough (class_node f) o (Some w.l) (us ++ (c ∷ w.vs)) o None) none w.run in
-    (w.is ∙ ap (λ us. us ++ (c ∷ w.vs)) none, w.lead ∙ r.0)
+-- none stands behind it
+last_behind : (f : ℕ → Option HeldCell) (m c : ℕ) (xs : List ℕ) (t : ClassTree) → MayFile f m c xs t → In c xs → ends_class f c ≡ true → (w : Among f m xs t c) → (w.l ≡ c) × (w.vs ≡ [])
+last_behind f m c xs t a i last w =
+    let same : w.l ≡ c = last_is f m c xs t a w c i (key_same (key_in f c)) last in
+    (same, ring_end c w.us w.vs w.ring.1 (w.ring.2 ∙ ap (λ z. w.ring.1 ++ z ∷ []) same) w.once)
 
 -- it is found
-pub leads_itself : (f : ℕ → Option HeldCell) (m c : ℕ) (xs : List ℕ) (t : ClassTree) → MayFile f m c xs t → In c xs → LeadsClass f c → top (place_in f (key_in f c) m t).tree ≡ Some c
-leads_itself f m c xs t a i prev = (front_is f m c xs t (among f m c xs t a i) prev).1
+pub leads_itself : (f : ℕ → Option HeldCell) (m c : ℕ) (xs : List ℕ) (t : ClassTree) → MayFile f m c xs t → In c xs → ends_class f c ≡ true → top (place_in f (key_in f c) m t).tree ≡ Some c
+leads_itself f m c xs t a i last = let w = among f m c xs t a i in w.lead ∙ ap Some (last_behind f m c xs t a i last w).0
 
--- it leaves, and the next one leads
-pub filed_passed : (f : ℕ → Option HeldCell) → HaveLinks f → (m c : ℕ) (xs : List ℕ) (t : ClassTree) (xs' : List ℕ) → MayFile f m c xs t → In c xs → ClassBecomes f (key_in f c) xs (without c (of_class f (key_in f c) xs)) xs' → (nx : ℕ) → LeadsClass f c → link_in f c CLASS_NEXT ≡ Some nx
-    → Refiled f (passed f (place_in f (key_in f c) m t).holder (place_in f (key_in f c) m t).link c nx) m xs (key_in f c) xs'
-filed_passed f have m c xs t xs' a i one nx prev next =
-    let w = among f m c xs t a i in let u = front_is f m c xs t w prev in
-    let b = (back_is (class_node f) (link_in f w.l CLASS_PREV) (Some w.l) w.us c w.vs (link_in f w.l CLASS_PREV) w.run (Some nx) next).1 nx refl in
-    let cut : of_class f (key_in f c) xs ≡ c ∷ nx ∷ b.0 = u.0 ∙ ap (λ us. c ∷ us) b.1 in
-    let k = fork_of (place_in f (key_in f c) m t).tree c u.1 in
-    let inside : of_class f (key_in f c) xs' ≡ nx ∷ b.0 = one.own ∙ ap (without c) cut ∙ without_at [] c (nx ∷ b.0) (subst Distinct (sym w.is ∙ cut) w.once) in
+-- it leaves, and the one before it is the last
+pub filed_shorter : (f : ℕ → Option HeldCell) → HaveLinks f → (m c : ℕ) (xs : List ℕ) (t : ClassTree) (xs' : List ℕ) → MayFile f m c xs t → In c xs → ClassBecomes f (key_in f c) xs (without c (of_class f (key_in f c) xs)) xs' → (pr nx : ℕ) → ends_class f c ≡ true → link_in f c CLASS_PREV ≡ Some pr → link_in f c CLASS_NEXT ≡ Some nx
+    → ends_class f pr ≡ false → Refiled f (shortened f (place_in f (key_in f c) m t).holder (place_in f (key_in f c) m t).link c pr nx) m xs (key_in f c) xs'
+filed_shorter f have m c xs t xs' a i one pr nx last prev next inner =
+    let w = among f m c xs t a i in let b = last_behind f m c xs t a i last w in
+    let front : (ws : List ℕ) × (w.us ≡ nx ∷ ws) = by w.l w.us w.vs b.0 w.ring.0 in
+    let alone : w.us ++ (c ∷ w.vs) ≡ nx ∷ (front.0 ++ c ∷ []) = (λ u. front.1 u ++ (c ∷ b.1 u)) in
+    let cut : of_class f (key_in f c) xs ≡ nx ∷ (front.0 ++ c ∷ []) = w.is ∙ alone in
+    let inside : of_class f (key_in f c) xs' ≡ nx ∷ front.0 = one.own ∙ ap (without c) cut ∙ without_at (nx ∷ front.0) c [] (subst Distinct alone w.once) ∙ plus_nothing (nx ∷ front.0) in
+    let k = fork_of (place_in f (key_in f c) m t).tree c (leads_itself f m c xs t a i last) in
     record {
-      touches = passed_touches f m c xs t have a.classed a.alive a.once a.there_m a.there_c a.no_m a.not_m xs' b.0 nx one.others cut inside k.0 k.1 k.2;
+      touches = shorter_touches f m c xs t have a.classed a.alive a.once a.there_m a.there_c a.no_m a.not_m xs' front.0 pr nx one.others cut inside k.0 k.1 k.2 prev;
       tree = _;
-      classed = passed_classed f m c xs t have a.classed a.alive a.once a.there_m a.there_c a.no_m a.not_m xs' b.0 nx one.others cut inside k.0 k.1 k.2;
+      classed = shorter_classed f m c xs t have a.classed a.alive a.once a.there_m a.there_c a.no_m a.not_m xs' front.0 pr nx one.others cut inside k.0 k.1 k.2 prev;
     }
+  where
+    by : (l : ℕ) (us vs : List ℕ) → l ≡ c → Linked (class_node f) l (us ++ (c ∷ vs)) → (ws : List ℕ) × (us ≡ nx ∷ ws)
+    by l [] vs s k =
+        let e : l ≡ pr = same_Some l pr (sym k.1 ∙ prev) in
+        absurd (let z : true ≡ false = sym last ∙ ap (ends_class f) (sym s ∙ e) ∙ inner in cc)
+    by l (u ∷ us) vs s k = (us, ap (λ z. z ∷ us) (same_Some u nx (sym k.0 ∙ ap (λ z. link_in f z CLASS_NEXT) s ∙ next)))
 
 -- the tree from there on
-pub begins_tree : (f : ℕ → Option HeldCell) (m c : ℕ) (xs : List ℕ) (t : ClassTree) → MayFile f m c xs t → In c xs → LeadsClass f c → (a : ClassTree) × (b : ClassTree) × ((place_in f (key_in f c) m t).tree ≡ Fork c a b)
-begins_tree f m c xs t a i prev = fork_of (place_in f (key_in f c) m t).tree c (leads_itself f m c xs t a i prev)
+pub begins_tree : (f : ℕ → Option HeldCell) (m c : ℕ) (xs : List ℕ) (t : ClassTree) → MayFile f m c xs t → In c xs → ends_class f c ≡ true → (a : ClassTree) × (b : ClassTree) × ((place_in f (key_in f c) m t).tree ≡ Fork c a b)
+begins_tree f m c xs t a i last = fork_of (place_in f (key_in f c) m t).tree c (leads_itself f m c xs t a i last)
 
 -- below it
 pub below_is : (f : ℕ → Option HeldCell) (m c : ℕ) (xs : List ℕ) (t : ClassTree) → MayFile f m c xs t → (x : ℕ) (a b : ClassTree) → (place_in f (key_in f c) m t).tree ≡ Fork x a b → IsTree f (link_in f x EVEN) a × IsTree f (link_in f x ODD) b × (d : ℕ) × IsSorted f d a × IsSorted f d b
@@ -254,16 +235,21 @@ below_is f m c xs t may x a b is =
     (n.2, n.3, suc w.depth, s.2, s.3)
 
 -- or its class is gone, and one from below it, if there is one, takes its place
-pub filed_dropped : (f : ℕ → Option HeldCell) → HaveLinks f → (m c : ℕ) (xs : List ℕ) (t : ClassTree) (xs' : List ℕ) → MayFile f m c xs t → In c xs → ClassBecomes f (key_in f c) xs (without c (of_class f (key_in f c) xs)) xs' → LeadsClass f c → link_in f c CLASS_NEXT ≡ None
+pub filed_dropped : (f : ℕ → Option HeldCell) → HaveLinks f → (m c : ℕ) (xs : List ℕ) (t : ClassTree) (xs' : List ℕ) → MayFile f m c xs t → In c xs → ClassBecomes f (key_in f c) xs (without c (of_class f (key_in f c) xs)) xs' → (pr : ℕ) → ends_class f c ≡ true → link_in f c CLASS_PREV ≡ Some pr → ends_class f pr ≡ true
     → (l r : ClassTree) → (place_in f (key_in f c) m t).tree ≡ Fork c l r
     → Refiled f (dropped f (place_in f (key_in f c) m t).holder (place_in f (key_in f c) m t).link c (lowest_below c l r).holder (lowest_below c l r).link (lowest_below c l r).leader) m xs (key_in f c) xs'
-filed_dropped f have m c xs t xs' a i one prev next l r is = by l r is
+filed_dropped f have m c xs t xs' a i one pr last prev alone l r is = by l r is
   where
     inside : of_class f (key_in f c) xs' ≡ []
     inside =
-        let w = among f m c xs t a i in let u = front_is f m c xs t w prev in
-        let none : w.vs ≡ [] = (back_is (class_node f) (link_in f w.l CLASS_PREV) (Some w.l) w.us c w.vs (link_in f w.l CLASS_PREV) w.run None next).0 refl in
-        let cut : of_class f (key_in f c) xs ≡ c ∷ [] = u.0 ∙ ap (λ us. c ∷ us) none in
+        let w = among f m c xs t a i in let b = last_behind f m c xs t a i last w in
+        let q = prev_inside f m c xs t a i pr prev in
+        let same : c ≡ pr = sym b.0 ∙ last_is f m c xs t a w pr q.0 q.1 alone in
+        let none : w.us ≡ [] = elim (linked_prev (class_node f) w.l w.us c w.vs w.ring.0 pr prev).1 [
+          | inl s ↦ s.0
+          | inr s ↦ absurd (apart w.us (c ∷ w.vs) pr c w.once (ring_last pr w.us s.0 s.1) (inl refl) (sym same))
+        ] in
+        let cut : of_class f (key_in f c) xs ≡ c ∷ [] = w.is ∙ (λ u. none u ++ (c ∷ b.1 u)) in
         one.own ∙ ap (without c) cut ∙ without_at [] c [] (subst Distinct (sym w.is ∙ cut) w.once)
 
     by : (l r : ClassTree) → (place_in f (key_in f c) m t).tree ≡ Fork c l r
@@ -289,8 +275,8 @@ filed_dropped f have m c xs t xs' a i one prev next l r is = by l r is
 -- An atom comes before another of its class
 
 -- the other one may be asked for too
-may_other : (f : ℕ → Option HeldCell) (m c : ℕ) (xs : List ℕ) (t : ClassTree) → MayFile f m c xs t → (d : ℕ) → In d xs → MayFile f m d xs t
-may_other f m c xs t a d i = record { classed = a.classed; once = a.once; alive = a.alive; there_m = a.there_m; membrane = a.membrane; there_c = a.alive d i; no_m = a.no_m; not_m = λ e. a.no_m (subst (λ u. In u xs) e i) }
+pub may_other : (f : ℕ → Option HeldCell) (m c : ℕ) (xs : List ℕ) (t : ClassTree) → MayFile f m c xs t → (d : ℕ) → In d xs → MayFile f m d xs t
+may_other f m c xs t a d i = record { classed = a.classed; once = a.once; alive = a.alive; there_m = a.there_m; membrane = a.membrane; there_c = a.alive d i; no_m = a.no_m; not_m = λ e. a.no_m (subst (λ u. In u xs) e i); kinds = a.kinds; home = a.home }
 
 -- what stands before the other is there
 pub prev_other : (f : ℕ → Option HeldCell) (m c : ℕ) (xs : List ℕ) (t : ClassTree) → MayFile f m c xs t → (d : ℕ) → In d xs → (q : ℕ) → link_in f d CLASS_PREV ≡ Some q → IsSome (f q)
@@ -300,35 +286,16 @@ prev_other f m c xs t a d i q e = prev_alive f m d xs t (may_other f m c xs t a 
 pub prev_other_some : (f : ℕ → Option HeldCell) (m c : ℕ) (xs : List ℕ) (t : ClassTree) → MayFile f m c xs t → (d : ℕ) → In d xs → link_in f d CLASS_PREV ≡ None → ⊥
 prev_other_some f m c xs t a d i e = prev_some f m d xs t (may_other f m c xs t a d i) i e
 
--- the first one is found
-pub leads_other : (f : ℕ → Option HeldCell) (m c : ℕ) (xs : List ℕ) (t : ClassTree) → MayFile f m c xs t → (d : ℕ) → In d xs → key_in f d ≡ key_in f c → LeadsClass f d → top (place_in f (key_in f c) m t).tree ≡ Some d
-leads_other f m c xs t a d i k e = subst (λ p. top (place_in f p m t).tree ≡ Some d) k (leads_itself f m d xs t (may_other f m c xs t a d i) i e)
-
--- between two
+-- it comes
 pub filed_inside : (f : ℕ → Option HeldCell) → HaveLinks f → (m c : ℕ) (xs : List ℕ) (t : ClassTree) (xs' : List ℕ) → MayFile f m c xs t → (In c xs → ⊥) → (d : ℕ) → In d xs → key_in f d ≡ key_in f c → ClassBecomes f (key_in f c) xs (put_before c d (of_class f (key_in f c) xs)) xs'
-    → (pr : ℕ) → link_in f d CLASS_PREV ≡ Some pr → IsSome (link_in f pr CLASS_NEXT) → Refiled f (put_between f pr d c) m (c ∷ xs) (key_in f c) xs'
-filed_inside f have m c xs t xs' a fresh d i k one pr prev some =
-    let w = among f m d xs t (may_other f m c xs t a d i) i in let b = behind f m d xs t w pr prev some in
-    let cut : of_class f (key_in f c) xs ≡ w.l ∷ (b.us ++ (d ∷ w.vs)) = ap (λ p. of_class f p xs) (sym k) ∙ b.is in
-    let inside : of_class f (key_in f c) xs' ≡ w.l ∷ (b.us ++ (c ∷ d ∷ w.vs)) = one.own ∙ ap (put_before c d) cut ∙ put_at c (w.l ∷ b.us) d w.vs b.once in
+    → (pr : ℕ) → link_in f d CLASS_PREV ≡ Some pr → Refiled f (put_inside f m pr d c) m (c ∷ xs) (key_in f c) xs'
+filed_inside f have m c xs t xs' a fresh d i k one pr prev =
+    let w = among f m d xs t (may_other f m c xs t a d i) i in
+    let cut : of_class f (key_in f c) xs ≡ w.us ++ (d ∷ w.vs) = ap (λ p. of_class f p xs) (sym k) ∙ w.is in
+    let inside : of_class f (key_in f c) xs' ≡ w.us ++ (c ∷ d ∷ w.vs) = one.own ∙ ap (put_before c d) cut ∙ put_at c w.us d w.vs w.once in
     let key_l : is_key (key_in f w.l) (key_in f c) ≡ true = subst (λ p. is_key (key_in f w.l) p ≡ true) k w.leads.key in
     record {
-      touches = inside_touches f m c xs t have a.classed a.alive a.once a.there_m a.there_c a.no_m a.not_m xs' b.us w.vs w.l pr d one.others cut inside fresh w.leads.inside key_l prev;
+      touches = inside_touches f m c xs t have a.classed a.alive a.once a.there_m a.there_c a.no_m a.not_m xs' w.us w.vs w.l pr d one.others cut inside fresh w.leads.inside key_l prev;
       tree = t;
-      classed = inside_classed f m c xs t have a.classed a.alive a.once a.there_m a.there_c a.no_m a.not_m xs' b.us w.vs w.l pr d one.others cut inside fresh w.leads.inside key_l prev;
-    }
-
--- before the first
-pub filed_first : (f : ℕ → Option HeldCell) → HaveLinks f → (m c : ℕ) (xs : List ℕ) (t : ClassTree) (xs' : List ℕ) → MayFile f m c xs t → (In c xs → ⊥) → (d : ℕ) → In d xs → key_in f d ≡ key_in f c → ClassBecomes f (key_in f c) xs (put_before c d (of_class f (key_in f c) xs)) xs'
-    → LeadsClass f d → Refiled f (put_first f (place_in f (key_in f c) m t).holder (place_in f (key_in f c) m t).link d c) m (c ∷ xs) (key_in f c) xs'
-filed_first f have m c xs t xs' a fresh d i k one prev =
-    let b = may_other f m c xs t a d i in let w = among f m d xs t b i in let u = front_is f m d xs t w prev in
-    let cut : of_class f (key_in f c) xs ≡ d ∷ w.vs = ap (λ p. of_class f p xs) (sym k) ∙ u.0 in
-    let once : Distinct (d ∷ w.vs) = subst Distinct (sym w.is ∙ u.0) w.once in
-    let inside : of_class f (key_in f c) xs' ≡ c ∷ d ∷ w.vs = one.own ∙ ap (put_before c d) cut ∙ put_at c [] d w.vs once in
-    let y = fork_of (place_in f (key_in f c) m t).tree d (leads_other f m c xs t a d i k prev) in
-    record {
-      touches = first_touches f m c xs t have a.classed a.alive a.once a.there_m a.there_c a.no_m a.not_m xs' w.vs d one.others cut inside fresh y.0 y.1 y.2;
-      tree = _;
-      classed = first_classed f m c xs t have a.classed a.alive a.once a.there_m a.there_c a.no_m a.not_m xs' w.vs d one.others cut inside fresh y.0 y.1 y.2;
+      classed = inside_classed f m c xs t have a.classed a.alive a.once a.there_m a.there_c a.no_m a.not_m xs' w.us w.vs w.l pr d one.others cut inside fresh w.leads.inside key_l prev;
     }

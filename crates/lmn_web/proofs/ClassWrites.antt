@@ -1,11 +1,12 @@
 -- What is written to the links of classes.
-use Rattle.std.proofs.Common.{◌≡◌, ◌<◌, ℕ, true, false, List, length, get_or, Option, IsSome, refl, sym, ap, subst, ◌∙◌, inl, inr, arith}
+use Rattle.std.proofs.Common.{◌≡◌, ◌<◌, ℕ, true, false, List, length, get_or, Option, Some, IsSome, refl, sym, ap, subst, ◌∙◌, inl, inr, arith}
 use Rattle.lmn_base.specs.Lists.{In}
 use Rattle.lmn_web_cells.specs.Cells.{HeldCell, IsLinkWord, links_of, numbers_of, with_link}
 use Rattle.lmn_web_cells.proofs.LineLemmas.{still_there, link_other, keeps, count_links}
+use Rattle.lmn_web_cells.specs.Runs.{link_in}
 use Rattle.lmn_web_cells.specs.Numbers.{HIGH, ARITY}
-use Rattle.lmn_web.specs.Classes.{AllButLinks, Touches, key_in, is_key, link_written}
-use Rattle.lmn_web_cells.specs.Links.{CLASS_NEXT, CLASS_PREV, LEADERS}
+use Rattle.lmn_web.specs.Classes.{AllButLinks, Touches, key_in, is_key, link_written, put_between, closed, taken_over}
+use Rattle.lmn_web_cells.specs.Links.{CLASS_NEXT, CLASS_PREV, EVEN, ODD, LEADERS}
 use Rattle.lmn_web.proofs.ClassTrees.{Holds}
 use Rattle.lmn_web.proofs.RelistLemmas.{rest_link}
 
@@ -27,6 +28,28 @@ numbers_kept f g a k v x e = ap (λ (h : ℕ → Option HeldCell). length (numbe
 pub word_kept : (f g : ℕ → Option HeldCell) (a k : ℕ) (v : Option ℕ) (x word : ℕ) → g ≡ link_written f a k v → IsLinkWord (f x) word → IsLinkWord (g x) word
 word_kept f g a k v x word e (inl low) = inl low
 word_kept f g a k v x word e (inr last) = inr (last.0, numbers_kept f g a k v x e ∙ last.1)
+
+-- several writes keep it too
+pub put_kept : (f g : ℕ → Option HeldCell) (p d c x : ℕ) → g ≡ put_between f p d c → IsSome (f x) → IsSome (g x)
+put_kept f g p d c x e t =
+    let f1 = link_written f c CLASS_NEXT (Some d) in let f2 = link_written f1 c CLASS_PREV (Some p) in let f3 = link_written f2 p CLASS_NEXT (Some c) in
+    kept f3 g d CLASS_PREV (Some c) x e (kept f2 f3 p CLASS_NEXT (Some c) x refl (kept f1 f2 c CLASS_PREV (Some p) x refl (kept f f1 c CLASS_NEXT (Some d) x refl t)))
+
+pub put_word : (f g : ℕ → Option HeldCell) (p d c x word : ℕ) → g ≡ put_between f p d c → IsLinkWord (f x) word → IsLinkWord (g x) word
+put_word f g p d c x word e t =
+    let f1 = link_written f c CLASS_NEXT (Some d) in let f2 = link_written f1 c CLASS_PREV (Some p) in let f3 = link_written f2 p CLASS_NEXT (Some c) in
+    word_kept f3 g d CLASS_PREV (Some c) x word e (word_kept f2 f3 p CLASS_NEXT (Some c) x word refl (word_kept f1 f2 c CLASS_PREV (Some p) x word refl (word_kept f f1 c CLASS_NEXT (Some d) x word refl t)))
+
+pub closed_kept : (f g : ℕ → Option HeldCell) (p n x : ℕ) → g ≡ closed f p n → IsSome (f x) → IsSome (g x)
+closed_kept f g p n x e t = let f1 = link_written f p CLASS_NEXT (Some n) in kept f1 g n CLASS_PREV (Some p) x e (kept f f1 p CLASS_NEXT (Some n) x refl t)
+
+pub closed_word : (f g : ℕ → Option HeldCell) (p n x word : ℕ) → g ≡ closed f p n → IsLinkWord (f x) word → IsLinkWord (g x) word
+closed_word f g p n x word e t = let f1 = link_written f p CLASS_NEXT (Some n) in word_kept f1 g n CLASS_PREV (Some p) x word e (word_kept f f1 p CLASS_NEXT (Some n) x word refl t)
+
+pub taken_kept : (f g : ℕ → Option HeldCell) (h k y n x : ℕ) → g ≡ taken_over f h k y n → IsSome (f x) → IsSome (g x)
+taken_kept f g h k y n x e t =
+    let f1 = link_written f n EVEN (link_in f y EVEN) in let f2 = link_written f1 n ODD (link_in f y ODD) in
+    kept f2 g h k (Some n) x e (kept f1 f2 n ODD (link_in f y ODD) x refl (kept f f1 n EVEN (link_in f y EVEN) x refl t))
 
 -- nothing was written
 pub touches_none : (f : ℕ → Option HeldCell) (m : ℕ) (xs : List ℕ) (p : ℕ × ℕ) → Touches f f m xs p

@@ -380,4 +380,4 @@ module _ (f h : ℕ → Option HeldCell) (made : ℕ) (W : IsWeb f made) (m : �
     }
       where
         none : AreClassed h m [] Bare
-        none = record { tree = e.leaders; sorted = tt; inside = λ l i. i; every = λ x i. absurd i; runs = λ l i. absurd i }
+        none = record { tree = e.leaders; sorted = tt; inside = λ l i. i; every = λ x i. absurd i; rings = λ l i. absurd i; inner = λ x i. absurd i }

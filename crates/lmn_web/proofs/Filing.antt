@@ -18,11 +18,13 @@ use Rattle.lmn_web.specs.Kinds.{FILED, kind_by}
 use Rattle.lmn_web.specs.Webs.{FilesNone, label_by, label_class, list_in, list_link, count_number, number_in, web_cell, web_label, web_of}
 use Rattle.lmn_web_cells.specs.Numbers.{ARITY, KIND, HIGH, LOW}
 use Rattle.lmn_web.specs.Indexes.{described, blank_by, numbers_by, cell_kind, IsListed, IsWeb, IsClassed, IsClassedWeb}
-use Rattle.lmn_web.specs.Classes.{AllButLinks, ClassTree, Bare, IsTree, files, class_node, key_in, is_key, of_class, RunsRound, AreClassed, MayFile, MayEnter, MayLeave, ClassBecomes, Touches, Refiled, FiledAs, put_at}
+use Rattle.lmn_web.specs.Classes.{AllButLinks, ClassTree, Bare, IsTree, files, leaders, class_node, key_in, is_key, of_class, IsRing, AreClassed, MayFile, MayEnter, MayLeave, ClassBecomes, Touches, Refiled, FiledAs, put_at}
 use Rattle.lmn_web.proofs.ListedLemmas.{same_lists, lists_same, cell_of}
 use Rattle.lmn_web.proofs.WebLemmas.{Told, told, made_web, made_lists, no_list}
 use Rattle.lmn_web.proofs.RelistLemmas.{Core, Relists, relists_web, in_none, new, new_lists, each, kind_is, there, m_there, core_of, back, core_rest}
 use Rattle.lmn_web.proofs.Reclassing.{sorted_keys}
+use Rattle.lmn_web.proofs.Rings.{linked_frame}
+use Rattle.lmn_web.proofs.ClassEnds.{files_membrane}
 use Rattle.lmn_web.proofs.ClassTrees.{tree_kept}
 use Rattle.lmn_web.proofs.FilterLemmas.{filter_same, one_before, place_in}
 use Rattle.lmn_base.proofs.Truth.{false_not_true as not_true}
@@ -74,13 +76,17 @@ module _ (f g : ℕ → Option HeldCell) (m : ℕ) (xs : List ℕ) (t : ClassTre
     sorted = sorted_keys f g 0 t (λ l i. keys l (c.inside l i)) c.sorted;
     inside = c.inside;
     every = λ x i. let o = c.every x i in (o.0, o.1, keys o.0 (c.inside o.0 o.1) ∙ o.2 ∙ sym (keys x i));
-    runs = λ l i. let q = key_in f l in let il = c.inside l i in
-        subst (λ r. RunsRound g l (of_class g r xs)) (sym (keys l il))
-        (subst (λ us. RunsRound g l us) (sym (list_kept q))
-        (subst (λ o. RunsThrough (class_node g) o (Some l) (of_class f q xs) o None) (sym (links l CLASS_PREV il (omega arith)))
-        (frame (class_node f) (class_node g) (link_in f l CLASS_PREV) (Some l) (of_class f q xs) (link_in f l CLASS_PREV) None
-        (each_of _ (of_class f q xs) (λ z j. let w = (in_filter (λ a. is_key (key_in f a) q) z xs j).0 in λ u. record { prev = links z CLASS_PREV w (omega arith) u; next = links z CLASS_NEXT w (omega arith) u })) (c.runs l i))));
+    rings = λ l i. let q = key_in f l in let r = c.rings l i in
+        subst (λ k. IsRing g l (of_class g k xs)) (sym (keys l (c.inside l i)))
+        (subst (λ us. IsRing g l us) (sym (list_kept q))
+        (linked_frame (class_node f) (class_node g) l (of_class f q xs) (λ z j. let w = class_in l i z j in λ u. record { prev = links z CLASS_PREV w (omega arith) u; next = links z CLASS_NEXT w (omega arith) u }) r.0, r.1, r.2));
+    inner = λ x i n. links x EVEN i (omega arith) ∙ c.inner x i n;
   }
+    where
+      -- a cell of a class is one of the membrane
+      class_in : (l : ℕ) → In l (leaders t) → (z : ℕ) → In z (l ∷ of_class f (key_in f l) xs) → In z xs
+      class_in l i z (inl e) = subst (λ u. In u xs) e (c.inside l i)
+      class_in l i z (inr j) = (in_filter (λ a. is_key (key_in f a) (key_in f l)) z xs j).0
 
 -- the classes of the lists that the cells tell
 pub classed_self : (f : ℕ → Option HeldCell) (ys : ℕ → CellKind → List ℕ) → IsListed f ys → IsClassed f ys → IsClassed f (list_in f)
@@ -136,7 +142,7 @@ classed_beside f g a ys away out none head small told c = record {
     other m x i = away x (λ e. out m Atom (subst (λ u. In u (ys m Atom)) e i))
 
     bare : AreClassed g a [] Bare
-    bare = record { tree = head; sorted = tt; inside = λ l i. i; every = λ x i. absurd i; runs = λ l i. absurd i }
+    bare = record { tree = head; sorted = tt; inside = λ l i. i; every = λ x i. absurd i; rings = λ l i. absurd i; inner = λ x i. absurd i }
 
 -- no cell, no class
 pub empty_classed : (f : ℕ → Option HeldCell) (made : ℕ) → f ≡ (λ _. None) → IsWeb f made → IsClassedWeb f made
@@ -321,6 +327,8 @@ module _ (f F : ℕ → Option HeldCell) (made : ℕ) (w : IsClassedWeb f made) 
         there_c = stay x t;
         no_m = λ i. no_m m m i refl;
         not_m = r.differ;
+        kinds = λ z i. ap kind_by (kind_still z) ∙ atom_of m z i;
+        home = files_membrane F m (files_still m ∙ ap (files f m) (sym atom) ∙ filed);
       }
 
   -- an atom that came into a list may be filed in its class

@@ -14,4 +14,6 @@ pub mod ClassRuns
 pub mod ClassSteps
 pub mod ClassTrees
 pub mod ClassPlaces
+pub mod Rings
+pub mod ClassEnds
 pub mod ExampleProofs

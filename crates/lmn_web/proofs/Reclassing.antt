@@ -1,15 +1,15 @@
 -- One class of a membrane changes.
-use Rattle.std.proofs.Common.{◌≡◌, ◌==◌, ℕ, Bool, true, false, List, [], ◌∷◌, suc, Option, Some, None, refl, sym, ap, subst, ◌∙◌, inl, inr}
+use Rattle.std.proofs.Common.{◌≡◌, ◌==◌, ℕ, Bool, true, false, List, [], suc, Option, Some, None, refl, sym, ap, subst, ◌∙◌, inl, inr}
 use Rattle.std.proofs.lemmas.Bool.{eq-eqb, eqb-true}
 use Rattle.std.specs.List.{filter}
 use Rattle.lmn_base.specs.Lists.{In}
 use Rattle.lmn_base.proofs.Truth.{bool_cases, and_true}
-use Rattle.lmn_store_heap.proofs.ListLemmas.{each_of, in_left, in_right}
+use Rattle.lmn_store_heap.proofs.ListLemmas.{in_left, in_right}
 use Rattle.lmn_web_cells.specs.Cells.{HeldCell}
-use Rattle.lmn_web_cells.specs.Runs.{Node, RunsThrough, link_in}
-use Rattle.lmn_web_cells.proofs.RunLemmas.{frame}
-use Rattle.lmn_web.specs.Classes.{ClassTree, Bare, Fork, leaders, IsTree, AreBeside, IsSorted, rest_at, is_odd, class_node, key_in, is_key, of_class, RunsRound, AreClassed}
-use Rattle.lmn_web_cells.specs.Links.{CLASS_PREV, LEADERS}
+use Rattle.lmn_web_cells.specs.Runs.{link_in}
+use Rattle.lmn_web.specs.Classes.{ClassTree, Bare, Fork, leaders, IsTree, AreBeside, IsSorted, rest_at, is_odd, class_node, key_in, is_key, of_class, IsRing, AreClassed}
+use Rattle.lmn_web_cells.specs.Links.{EVEN, LEADERS}
+use Rattle.lmn_web.proofs.Rings.{linked_frame, ring_last}
 use Rattle.lmn_store_heap.proofs.Filters.{in_filter, filter_in}
 
 -- Tests of classes
@@ -26,15 +26,6 @@ key_true p q e = let w = and_true (p.0 == q.0) (p.1 == q.1) e in λ t. (eqb-true
 pub nothing_in : (xs : List ℕ) → xs ≡ [] → (z : ℕ) → In z xs → ⊥
 nothing_in xs e z i = subst (λ us. In z us) e i
 
--- a run that begins with a cell
-pub run_head : (n : ℕ → Node) (before : Option ℕ) (l : ℕ) (xs : List ℕ) (last : Option ℕ) → RunsThrough n before (Some l) xs last None → (ys : List ℕ) × (xs ≡ l ∷ ys)
-run_head n before l [] last r = absurd (let e : ◌≡◌ {A = Option ℕ} (Some l) None = r.0 in cc)
-run_head n before l (x ∷ xs) last r = let e : ◌≡◌ {A = Option ℕ} (Some l) (Some x) = r.0 in (xs, let z : x ≡ l = cc in ap (λ y. y ∷ xs) z)
-
--- the cell is in it
-pub run_first : (n : ℕ → Node) (before : Option ℕ) (l : ℕ) (xs : List ℕ) (last : Option ℕ) → RunsThrough n before (Some l) xs last None → In l xs
-run_first n before l xs last r = let h = run_head n before l xs last r in subst (λ us. In l us) (sym h.1) (inl refl)
-
 -- a tree is sorted by the classes of its cells
 pub sorted_keys : (f g : ℕ → Option HeldCell) (d : ℕ) (t : ClassTree) → ((b : ℕ) → In b (leaders t) → key_in g b ≡ key_in f b) → IsSorted f d t → IsSorted g d t
 sorted_keys f g d Bare keys s = tt
@@ -48,7 +39,7 @@ sorted_keys f g d (Fork l a b) keys s = (
     beside : (odd : Bool) (ks : List ℕ) → ((k : ℕ) → In k ks → key_in g k ≡ key_in f k) → AreBeside f l d odd ks → AreBeside g l d odd ks
     beside odd ks same h k i = ((λ t. is_key (same k i t) (keys l (inl refl) t)) ∙ (h k i).0, ap (λ (p : ℕ × ℕ). is_odd (rest_at p.0 d)) (same k i) ∙ (h k i).1)
 
--- One class of a membrane changes: p is the class, and h its first atom then.
+-- One class of a membrane changes: p is the class, and h its last atom then.
 pub record Reclasses (f g : ℕ → Option HeldCell) (m : ℕ) (xs : List ℕ) (t : ClassTree) (p : ℕ × ℕ) (xs' : List ℕ) (t' : ClassTree) (h : Option ℕ) : Type 0 where
   pub keys : (b : ℕ) → key_in g b ≡ key_in f b
   pub lists : (q : ℕ × ℕ) → is_key q p ≡ false → of_class f q xs' ≡ of_class f q xs
@@ -59,8 +50,10 @@ pub record Reclasses (f g : ℕ → Option HeldCell) (m : ℕ) (xs : List ℕ) (
   pub were : (l : ℕ) → In l (leaders t') → is_key (key_in f l) p ≡ false → In l (leaders t)
   pub heads : (l : ℕ) → In l (leaders t') → is_key (key_in f l) p ≡ true → h ≡ Some l
   pub headed : (l : ℕ) → h ≡ Some l → In l (leaders t') × (is_key (key_in f l) p ≡ true)
-  pub run : (l : ℕ) → h ≡ Some l → RunsRound g l (of_class f p xs')
+  pub ring : (l : ℕ) → h ≡ Some l → IsRing g l (of_class f p xs')
   pub none : h ≡ None → of_class f p xs' ≡ []
+  pub kept : (z : ℕ) → is_key (key_in f z) p ≡ false → (In z (leaders t) → ⊥) → link_in g z EVEN ≡ link_in f z EVEN
+  pub inner : (z : ℕ) → In z (of_class f p xs') → (In z (leaders t') → ⊥) → link_in g z EVEN ≡ Some m
 
 module _ (f g : ℕ → Option HeldCell) (m : ℕ) (xs : List ℕ) (t : ClassTree) (old : AreClassed f m xs t) (p : ℕ × ℕ) (xs' : List ℕ) (t' : ClassTree) (h : Option ℕ) (r : Reclasses f g m xs t p xs' t' h) where
   keys_path : ◌≡◌ {A = ℕ → ℕ × ℕ} (λ b. key_in f b) (λ b. key_in g b)
@@ -77,28 +70,31 @@ module _ (f g : ℕ → Option HeldCell) (m : ℕ) (xs : List ℕ) (t : ClassTre
   was_in : (x : ℕ) → In x xs' → is_key (key_in f x) p ≡ false → In x xs
   was_in x i e = (in_filter (λ a. is_key (key_in f a) (key_in f x)) x xs (subst (λ us. In x us) (r.lists (key_in f x) e) (filter_in (λ a. is_key (key_in f a) (key_in f x)) x xs' i (key_same (key_in f x))))).0
 
-  run_of : (l : ℕ) → In l (leaders t') → RunsRound g l (of_class f (key_in f l) xs')
-  run_of l i = elim (bool_cases (is_key (key_in f l) p)) [
-    | inl e ↦ subst (λ q. RunsRound g l (of_class f q xs')) (sym (own_class l e)) (r.run l (r.heads l i e))
-    | inr e ↦ (let q = key_in f l in let j = r.were l i e in let run : RunsRound f l (of_class f q xs) = old.runs l j in
-        let same : link_in g l CLASS_PREV ≡ link_in f l CLASS_PREV = ap (λ (n : Node). n.prev) (r.nodes l (old.inside l j) e) in
-        subst (λ us. RunsRound g l us) (sym (r.lists q e))
-        (subst (λ o. RunsThrough (class_node g) o (Some l) (of_class f q xs) o None) (sym same)
-        (frame (class_node f) (class_node g) (link_in f l CLASS_PREV) (Some l) (of_class f q xs) (link_in f l CLASS_PREV) None
-        (each_of _ (of_class f q xs) (λ z k. let w = in_filter (λ a. is_key (key_in f a) q) z xs k in r.nodes z w.0 (ap (λ u. is_key u p) (key_true (key_in f z) q w.1) ∙ e))) run)))
+  ring_of : (l : ℕ) → In l (leaders t') → IsRing g l (of_class f (key_in f l) xs')
+  ring_of l i = elim (bool_cases (is_key (key_in f l) p)) [
+    | inl e ↦ subst (λ q. IsRing g l (of_class f q xs')) (sym (own_class l e)) (r.ring l (r.heads l i e))
+    | inr e ↦ (let q = key_in f l in let ring : IsRing f l (of_class f q xs) = old.rings l (r.were l i e) in
+        subst (λ us. IsRing g l us) (sym (r.lists q e)) (linked_frame (class_node f) (class_node g) l (of_class f q xs) (λ z k. same z l e (elim k [ inl s ↦ subst (λ y. In y (of_class f q xs)) s (ring_last l (of_class f q xs) ring.1 ring.2) | inr j ↦ j ])) ring.0, ring.1, ring.2))
   ]
+    where
+      same : (z : ℕ) (j : ℕ) → is_key (key_in f j) p ≡ false → In z (of_class f (key_in f j) xs) → class_node g z ≡ class_node f z
+      same z j e k = let w = in_filter (λ a. is_key (key_in f a) (key_in f j)) z xs k in r.nodes z w.0 (ap (λ u. is_key u p) (key_true (key_in f z) (key_in f j) w.1) ∙ e)
 
   -- the classes then
   pub reclassed : AreClassed g m xs' t'
   reclassed = record {
     tree = r.tree;
     sorted = sorted_keys f g 0 t' (λ b _. r.keys b) r.sorted;
-    inside = λ l i. (in_filter (λ a. is_key (key_in f a) (key_in f l)) l xs' (run_first (class_node g) (link_in g l CLASS_PREV) l (of_class f (key_in f l) xs') (link_in g l CLASS_PREV) (run_of l i))).0;
+    inside = λ l i. let ring = ring_of l i in (in_filter (λ a. is_key (key_in f a) (key_in f l)) l xs' (ring_last l (of_class f (key_in f l) xs') ring.1 ring.2)).0;
     every = λ x i. elim (bool_cases (is_key (key_in f x) p)) [
       | inl e ↦ head x i e h refl
       | inr e ↦ (let o = old.every x (was_in x i e) in (o.0, r.stay o.0 o.1 (ap (λ q. is_key q p) o.2 ∙ e), r.keys o.0 ∙ o.2 ∙ sym (r.keys x)))
     ];
-    runs = λ l i. subst (λ q. RunsRound g l (of_class g q xs')) (sym (r.keys l)) (subst (λ us. RunsRound g l us) (sym (class_same (key_in f l))) (run_of l i));
+    rings = λ l i. subst (λ q. IsRing g l (of_class g q xs')) (sym (r.keys l)) (subst (λ us. IsRing g l us) (sym (class_same (key_in f l))) (ring_of l i));
+    inner = λ x i n. elim (bool_cases (is_key (key_in f x) p)) [
+      | inl e ↦ r.inner x (filter_in (λ a. is_key (key_in f a) p) x xs' i e) n
+      | inr e ↦ (let out : In x (leaders t) → ⊥ = (λ j. n (r.stay x j e)) in r.kept x e out ∙ old.inner x (was_in x i e) out)
+    ];
   }
     where
       head : (x : ℕ) → In x xs' → is_key (key_in f x) p ≡ true → (o : Option ℕ) → h ≡ o → (l : ℕ) × In l (leaders t') × (key_in g l ≡ key_in g x)

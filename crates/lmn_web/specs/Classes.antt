@@ -1,17 +1,17 @@
--- Words of private functions: the atoms of a membrane that files them and that have one class, which is the high half of their labels and how many ports they have, are linked one behind the other.
+-- Words of private functions: the atoms of a membrane that files them and that have one class, which is the high half of their labels and how many ports they have, are linked in a ring, and the last one of each class hangs in a tree.
 use Rattle.std.specs.Prelude.{◌≡◌, ◌≢◌, ◌==◌, ◌&&◌, ◌<◌, ◌/◌, ◌%◌, ◌++◌, Bool, true, false, ℕ, zero, suc, List, [], ◌∷◌, length, filter, Option, Some, None, IsSome, is_some, if◌then◌else◌}
 use Rattle.lmn_base.specs.Lists.{In}
 use Rattle.lmn_store_heap.specs.Lists.{Distinct, without}
 use Rattle.std.specs.Option.{option_map}
 use Rattle.lmn_store_heap.specs.Heap.{alter}
 use Rattle.lmn_web_cells.specs.Cells.{HeldPort, HeldCell, links_of, numbers_of, ports_of, with_link}
-use Rattle.lmn_web_cells.specs.Runs.{Node, RunsThrough, link_in, put_before}
+use Rattle.lmn_web_cells.specs.Runs.{Node, link_in, put_before}
 use Rattle.lmn_web_cells.specs.Links.{CLASS_NEXT, CLASS_PREV, EVEN, ODD, LEADERS}
 use Rattle.lmn_web.specs.Webs.{number_in}
 use Rattle.lmn_web_cells.specs.Numbers.{ARITY, HIGH, KIND}
 use Rattle.lmn_web.specs.declared.kind.CellKind.{CellKind}
 use Rattle.lmn_web.specs.declared.kind.CellKind.TheVariants.{Atom, Membrane}
-use Rattle.lmn_web.specs.Kinds.{FILED}
+use Rattle.lmn_web.specs.Kinds.{kind_by, FILED}
 
 abbrev pub class_node : (ℕ → Option HeldCell) → ℕ → Node
 class_node f a = record { prev = link_in f a CLASS_PREV; next = link_in f a CLASS_NEXT }
@@ -32,9 +32,9 @@ is_key p q = (p.0 == q.0) && (p.1 == q.1)
 abbrev pub of_class : (ℕ → Option HeldCell) → ℕ × ℕ → List ℕ → List ℕ
 of_class f p xs = filter (λ a. is_key (key_in f a) p) xs
 
--- The tree of the first atoms of the classes
+-- The tree of the last atoms of the classes
 
--- a first atom, with those below it on its even and on its odd side, or none
+-- a last atom, with those below it on its even and on its odd side, or none
 pub data ClassTree : Type 0 where
   Bare : ClassTree
   Fork : ℕ → ClassTree → ClassTree → ClassTree
@@ -70,17 +70,23 @@ abbrev pub IsSorted : (ℕ → Option HeldCell) → ℕ → ClassTree → Type 0
 IsSorted f d Bare = Unit {0}
 IsSorted f d (Fork l a b) = AreBeside f l d false (leaders a) × AreBeside f l d true (leaders b) × IsSorted f (suc d) a × IsSorted f (suc d) b
 
--- zs is linked one behind the other from l on, and before l stands the last of them
-abbrev pub RunsRound : (ℕ → Option HeldCell) → ℕ → List ℕ → Type 0
-RunsRound f l zs = RunsThrough (class_node f) (link_in f l CLASS_PREV) (Some l) zs (link_in f l CLASS_PREV) None
+-- each of zs is linked both ways with the one before it, and the first one with l
+abbrev pub Linked : (ℕ → Node) → ℕ → List ℕ → Type 0
+Linked h l [] = Unit {0}
+Linked h l (z ∷ zs) = ((h l).next ≡ Some z) × ((h z).prev ≡ Some l) × Linked h z zs
 
--- t has the first atoms of the classes of m, whose atoms are xs
+-- zs is a ring, and l is its last one
+abbrev pub IsRing : (ℕ → Option HeldCell) → ℕ → List ℕ → Type 0
+IsRing f l zs = Linked (class_node f) l zs × (ys : List ℕ) × (zs ≡ ys ++ l ∷ [])
+
+-- t has the last atoms of the classes of m, whose atoms are xs; where they have others below them, all other atoms lead to m
 pub record AreClassed (f : ℕ → Option HeldCell) (m : ℕ) (xs : List ℕ) (t : ClassTree) : Type 0 where
   pub tree : IsTree f (link_in f m LEADERS) t
   pub sorted : IsSorted f 0 t
   pub inside : (l : ℕ) → In l (leaders t) → In l xs
   pub every : (x : ℕ) → In x xs → (l : ℕ) × In l (leaders t) × (key_in f l ≡ key_in f x)
-  pub runs : (l : ℕ) → In l (leaders t) → RunsRound f l (of_class f (key_in f l) xs)
+  pub rings : (l : ℕ) → In l (leaders t) → IsRing f l (of_class f (key_in f l) xs)
+  pub inner : (x : ℕ) → In x xs → (In x (leaders t) → ⊥) → link_in f x EVEN ≡ Some m
 
 -- where a class stands or is missing: the cell and the link at which it hangs, the depth, and the tree from there on
 pub record ClassPlace : Type 0 where
@@ -99,7 +105,7 @@ class_place f p h k d (Fork l a b) =
 abbrev pub place_in : (ℕ → Option HeldCell) → ℕ × ℕ → ℕ → ClassTree → ClassPlace
 place_in f p m t = class_place f p m LEADERS 0 t
 
--- a first atom, and where it hangs
+-- a last atom, and where it hangs
 pub record Hung : Type 0 where
   pub holder : ℕ
   pub link : ℕ
@@ -129,31 +135,27 @@ taken_over f h k c n = link_written (link_written (link_written f n EVEN (link_i
 
 -- c begins a class of its own, at link k of h
 abbrev pub begun : (ℕ → Option HeldCell) → ℕ → ℕ → ℕ → ℕ → Option HeldCell
-begun f h k c = link_written (link_written (link_written (link_written (link_written f c CLASS_NEXT None) c CLASS_PREV (Some c)) c EVEN None) c ODD None) h k (Some c)
-
--- c stands behind q, the last one of the class of l
-abbrev pub lengthened : (ℕ → Option HeldCell) → ℕ → ℕ → ℕ → ℕ → Option HeldCell
-lengthened f l q c = link_written (link_written (link_written (link_written f c CLASS_NEXT None) c CLASS_PREV (Some q)) q CLASS_NEXT (Some c)) l CLASS_PREV (Some c)
+begun f h k c = link_written (link_written (link_written (link_written (link_written f c CLASS_NEXT (Some c)) c CLASS_PREV (Some c)) c EVEN None) c ODD None) h k (Some c)
 
 -- c stands between p and d
 abbrev pub put_between : (ℕ → Option HeldCell) → ℕ → ℕ → ℕ → ℕ → Option HeldCell
 put_between f p d c = link_written (link_written (link_written (link_written f c CLASS_NEXT (Some d)) c CLASS_PREV (Some p)) p CLASS_NEXT (Some c)) d CLASS_PREV (Some c)
 
--- c leads in the place of d, which stands behind it
-abbrev pub put_first : (ℕ → Option HeldCell) → ℕ → ℕ → ℕ → ℕ → ℕ → Option HeldCell
-put_first f h k d c = taken_over (link_written (link_written (link_written f c CLASS_NEXT (Some d)) c CLASS_PREV (link_in f d CLASS_PREV)) d CLASS_PREV (Some c)) h k d c
+-- c stands between p and d of m, and isn't the last one
+abbrev pub put_inside : (ℕ → Option HeldCell) → ℕ → ℕ → ℕ → ℕ → ℕ → Option HeldCell
+put_inside f m p d c = link_written (put_between f p d c) c EVEN (Some m)
+
+-- c is the last one of a class of m, in the place of l, and stands between it and the first one, d
+abbrev pub lengthened : (ℕ → Option HeldCell) → ℕ → ℕ → ℕ → ℕ → ℕ → ℕ → ℕ → Option HeldCell
+lengthened f m h k l d c = link_written (taken_over (put_between f l d c) h k l c) l EVEN (Some m)
 
 -- what stood between p and n has left
 abbrev pub closed : (ℕ → Option HeldCell) → ℕ → ℕ → ℕ → Option HeldCell
 closed f p n = link_written (link_written f p CLASS_NEXT (Some n)) n CLASS_PREV (Some p)
 
--- p is the last one of the class of l
-abbrev pub shortened : (ℕ → Option HeldCell) → ℕ → ℕ → ℕ → Option HeldCell
-shortened f l p = link_written (link_written f p CLASS_NEXT None) l CLASS_PREV (Some p)
-
--- n leads in the place of c, which stood before it
-abbrev pub passed : (ℕ → Option HeldCell) → ℕ → ℕ → ℕ → ℕ → ℕ → Option HeldCell
-passed f h k c n = taken_over (link_written f n CLASS_PREV (link_in f c CLASS_PREV)) h k c n
+-- p is the last one in the place of c, which stood between it and the first one, n
+abbrev pub shortened : (ℕ → Option HeldCell) → ℕ → ℕ → ℕ → ℕ → ℕ → ℕ → Option HeldCell
+shortened f h k c p n = taken_over (closed f p n) h k c p
 
 -- the class of c is gone, and a leader that hung at link j of a, if there is one, hangs in its place
 abbrev pub dropped : (ℕ → Option HeldCell) → ℕ → ℕ → ℕ → ℕ → ℕ → Option ℕ → ℕ → Option HeldCell
@@ -171,7 +173,7 @@ pub record AllButLinks : Type 0 where
 abbrev pub all_but_links : Option HeldCell → AllButLinks
 all_but_links o = record { there = is_some o; numbers = numbers_of o; ports = ports_of o }
 
--- xs are the atoms of m, and t has the first ones of their classes; c is an atom
+-- xs are the atoms of m, and t has the last ones of their classes; c is an atom
 pub record MayFile (f : ℕ → Option HeldCell) (m c : ℕ) (xs : List ℕ) (t : ClassTree) : Type 0 where
   pub classed : AreClassed f m xs t
   pub once : Distinct xs
@@ -181,6 +183,8 @@ pub record MayFile (f : ℕ → Option HeldCell) (m c : ℕ) (xs : List ℕ) (t 
   pub there_c : IsSome (f c)
   pub no_m : In m xs → ⊥
   pub not_m : c ≢ m
+  pub kinds : (z : ℕ) → In z xs → kind_by (number_in f z KIND) ≡ Atom
+  pub home : kind_by (number_in f m KIND) ≡ Membrane
 
 -- What writes to classes leave: p is the class, and xs has all cells that are written but m.
 pub record Touches (f g : ℕ → Option HeldCell) (m : ℕ) (xs : List ℕ) (p : ℕ × ℕ) : Type 0 where
@@ -201,9 +205,14 @@ pub record Refiled (f g : ℕ → Option HeldCell) (m : ℕ) (xs : List ℕ) (p 
   pub tree : ClassTree
   pub classed : AreClassed g m xs' tree
 
--- c is the first one of its class: what stands before it is the last one
-abbrev pub LeadsClass : (ℕ → Option HeldCell) → ℕ → Type 0
-LeadsClass f c = (q : ℕ) × (link_in f c CLASS_PREV ≡ Some q) × (link_in f q CLASS_NEXT ≡ None)
+-- an atom, or none
+abbrev pub is_no_membrane : (ℕ → Option HeldCell) → Option ℕ → Bool
+is_no_membrane f None = true
+is_no_membrane f (Some d) = number_in f d KIND == 0
+
+-- c, which is filed, is the last one of its class: where it has others below it, it doesn't lead to a membrane
+abbrev pub ends_class : (ℕ → Option HeldCell) → ℕ → Bool
+ends_class f c = is_no_membrane f (link_in f c EVEN)
 
 -- c is filed in m as one of its class
 abbrev pub IsInItsClass : (ℕ → Option HeldCell) → ℕ → ℕ → Type 0

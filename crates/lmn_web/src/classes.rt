@@ -8,8 +8,9 @@ ghost use Rattle.lmn_store_heap.specs.Lists.{after, from};
 ghost use Rattle.lmn_web_cells.specs.Links.{LEADERS};
 ghost use Rattle.lmn_web_cells.specs.Runs.{Line, link_in};
 ghost use Rattle.lmn_web.specs.declared.kind.CellKind.TheVariants.{Atom};
-ghost use Rattle.lmn_web.specs.Webs.{list_in};
-ghost use Rattle.lmn_web.specs.Classes.{ClassTree, AreClassed, IsTree, IsSorted, FiledAs, MayEnter, MayFile, MayLeave, begun, closed, dropped, files, is_key, is_odd, key_in, LeadsClass, lengthened, lowest_below, passed, place_in, put_between, put_first, of_class, shortened, taken_over, top, IsInItsClass, IsFiledLast, IsFiledBefore, IsUnfiled};
+ghost use Rattle.lmn_web.specs.Kinds.{kind_by};
+ghost use Rattle.lmn_web.specs.Webs.{list_in, number_in};
+ghost use Rattle.lmn_web.specs.Classes.{ClassTree, AreClassed, IsTree, IsSorted, FiledAs, MayEnter, MayFile, MayLeave, begun, closed, dropped, ends_class, files, is_key, is_odd, key_in, lengthened, lowest_below, place_in, put_between, put_inside, of_class, shortened, taken_over, top, IsInItsClass, IsFiledLast, IsFiledBefore, IsUnfiled};
 
 use crate::kind::{CellKind, FILED};
 use lmn_web_cells::cell::Cells;
@@ -17,7 +18,7 @@ use lmn_web_cells::handle::Cell;
 use lmn_web_cells::links::{ATOMS, CLASS_NEXT, CLASS_PREV, EVEN, LEADERS_WORD, NEXT, ODD, PREV};
 use lmn_web_cells::numbers::{ARITY, HIGH, KIND};
 
-// A place in the tree of the first atoms of the classes: what hangs at a link of the membrane, or of the first atom above.
+// A place in the tree of the last atoms of the classes: what hangs at a link of the membrane, or of the last atom above.
 #[derive(Clone, Copy)]
 struct Place {
     holder: Cell,
@@ -46,14 +47,14 @@ fn has_class(cells: &Cells, c: Cell, high: u64, arity: u64) -> bool
     cells.number(c, HIGH) == high && cells.number(c, ARITY) == arity
 }
 
-// The link of a first atom on the side to which a number goes.
+// The link of a last atom on the side to which a number goes.
 fn side(rest: u64) -> usize
     ensures { result ≡ (if is_odd rest then ODD else EVEN) }
 {
     if rest % 2 == 1 { ODD } else { EVEN }
 }
 
-// Where a membrane has the first atom of a class, or would have it.
+// Where a membrane has the last atom of a class, or would have it.
 fn find(cells: &Cells, m: Cell, high: u64, arity: u64) -> Place
     requires there { IsSome (cells_by cells.now (cell_id m)) }
     requires membrane { length (numbers_of (cells_by cells.now (cell_id m))) ≡ 8 }
@@ -86,7 +87,7 @@ fn find(cells: &Cells, m: Cell, high: u64, arity: u64) -> Place
     }
 }
 
-// The first atom of a class of a membrane that files, without the place at which it hangs.
+// The last atom of a class of a membrane that files, without the place at which it hangs.
 fn leader_of(cells: &Cells, m: Cell, high: u64, arity: u64) -> Option<Cell>
     requires there { IsSome (cells_by cells.now (cell_id m)) }
     requires membrane { length (numbers_of (cells_by cells.now (cell_id m))) ≡ 8 }
@@ -106,7 +107,7 @@ fn leader_of(cells: &Cells, m: Cell, high: u64, arity: u64) -> Option<Cell>
     None
 }
 
-// What hangs below a first atom, on the odd side only where nothing does on the even one.
+// What hangs below a last atom, on the odd side only where nothing does on the even one.
 fn below(cells: &Cells, c: Cell) -> Place
     requires there { IsSome (cells_by cells.now (cell_id c)) }
     ensures holder { result.holder ≡ c }
@@ -129,7 +130,7 @@ fn below(cells: &Cells, c: Cell) -> Place
     }
 }
 
-// A first atom that has none below it, from those below another. None where that one has none.
+// A last atom that has none below it, from those below another. None where that one has none.
 fn lowest(cells: &Cells, c: Cell) -> Place
     requires there { IsSome (cells_by cells.now (cell_id c)) }
     requires tree { (a b : ClassTree) × IsTree (cells_by cells.now) (link_in (cells_by cells.now) (cell_id c) EVEN) a × IsTree (cells_by cells.now) (link_in (cells_by cells.now) (cell_id c) ODD) b
@@ -144,6 +145,19 @@ fn lowest(cells: &Cells, c: Cell) -> Place
         next = below(cells, d);
     }
     place
+}
+
+// Whether an atom that is filed is the last one of its class: each other one leads to its membrane where that has others below it.
+#[inline(always)]
+fn is_last(cells: &Cells, c: Cell) -> bool
+    requires there { IsSome (cells_by cells.now (cell_id c)) }
+    requires even { (d : ℕ) → link_in (cells_by cells.now) (cell_id c) EVEN ≡ Some d → IsSome (cells_by cells.now d) }
+    ensures { result ≡ ends_class (cells_by cells.now) (cell_id c) }
+{
+    match cells.link(c, EVEN) {
+        None => true,
+        Some(d) => cells.number(d, KIND) == 0,
+    }
 }
 
 // The first atom of a class from one of a membrane's list on, if there is one.
@@ -172,7 +186,10 @@ pub fn first_in(cells: &Cells, m: Cell, high: u64, arity: u64) -> Option<Cell>
     ensures { let f = cells_by cells.now in let own = of_class f (high, arity) (list_in f (cell_id m) Atom) in from (option_map cell_id result) own ≡ own }
 {
     if is_filed(cells, m, CellKind::Atom) {
-        leader_of(cells, m, high, arity)
+        match leader_of(cells, m, high, arity) {
+            None => None,
+            Some(last) => cells.link(last, CLASS_NEXT),
+        }
     } else {
         seek(cells, m, cells.link(m, ATOMS), high, arity)
     }
@@ -184,11 +201,16 @@ pub fn next_in(cells: &Cells, m: Cell, c: Cell) -> Option<Cell>
     requires membrane { files (cells_by cells.now) (cell_id m) Atom ≡ true → length (numbers_of (cells_by cells.now (cell_id m))) ≡ 8 }
     requires line { Line (cells_by cells.now) (cell_id m) ATOMS (list_in (cells_by cells.now) (cell_id m) Atom) }
     requires inside { In (cell_id c) (list_in (cells_by cells.now) (cell_id m) Atom) }
+    requires kinds { (x : ℕ) → In x (list_in (cells_by cells.now) (cell_id m) Atom) → kind_by (number_in (cells_by cells.now) x KIND) ≡ Atom }
     requires classes { files (cells_by cells.now) (cell_id m) Atom ≡ true → (t : ClassTree) × AreClassed (cells_by cells.now) (cell_id m) (list_in (cells_by cells.now) (cell_id m) Atom) t }
     ensures { let f = cells_by cells.now in let own = of_class f (key_in f (cell_id c)) (list_in f (cell_id m) Atom) in from (option_map cell_id result) own ≡ after (cell_id c) own }
 {
     if is_filed(cells, m, CellKind::Atom) {
-        cells.link(c, CLASS_NEXT)
+        if is_last(cells, c) {
+            None
+        } else {
+            cells.link(c, CLASS_NEXT)
+        }
     } else {
         seek(
             cells,
@@ -246,28 +268,15 @@ fn begin(cells: &mut Cells, holder: Cell, word: usize, c: Cell)
     requires c { IsSome (cells_by cells.old (cell_id c)) }
     ensures { cells_by cells.new ≡ begun (cells_by cells.old) (cell_id holder) (link_of word) (cell_id c) }
 {
-    cells.set_link(c, CLASS_NEXT, None);
+    cells.set_link(c, CLASS_NEXT, Some(c));
     cells.set_link(c, CLASS_PREV, Some(c));
     cells.set_link(c, EVEN, None);
     cells.set_link(c, ODD, None);
     cells.set_link_in(holder, word, Some(c));
 }
 
-// An atom goes behind the last one of a class.
-fn lengthen(cells: &mut Cells, leader: Cell, last: Cell, c: Cell)
-    requires leader { IsSome (cells_by cells.old (cell_id leader)) }
-    requires last { IsSome (cells_by cells.old (cell_id last)) }
-    requires c { IsSome (cells_by cells.old (cell_id c)) }
-    ensures { cells_by cells.new ≡ lengthened (cells_by cells.old) (cell_id leader) (cell_id last) (cell_id c) }
-{
-    cells.set_link(c, CLASS_NEXT, None);
-    cells.set_link(c, CLASS_PREV, Some(last));
-    cells.set_link(last, CLASS_NEXT, Some(c));
-    cells.set_link(leader, CLASS_PREV, Some(c));
-}
-
-// An atom goes between two of its class.
-fn put_inside(cells: &mut Cells, prev: Cell, next: Cell, c: Cell)
+// An atom goes between two that are neighbours in their class, the last one and the first one too.
+fn put_between(cells: &mut Cells, prev: Cell, next: Cell, c: Cell)
     requires prev { IsSome (cells_by cells.old (cell_id prev)) }
     requires next { IsSome (cells_by cells.old (cell_id next)) }
     requires c { IsSome (cells_by cells.old (cell_id c)) }
@@ -279,19 +288,15 @@ fn put_inside(cells: &mut Cells, prev: Cell, next: Cell, c: Cell)
     cells.set_link(next, CLASS_PREV, Some(c));
 }
 
-// An atom goes before the first one of its class.
-fn put_leader(cells: &mut Cells, holder: Cell, word: usize, leader: Cell, c: Cell)
-    requires holder { IsSome (cells_by cells.old (cell_id holder)) }
-    requires word { IsLinkWord (cells_by cells.old (cell_id holder)) word }
-    requires leader { IsSome (cells_by cells.old (cell_id leader)) }
+// An atom goes before another one of its class, so that it isn't the last one.
+fn put_inside(cells: &mut Cells, m: Cell, prev: Cell, next: Cell, c: Cell)
+    requires prev { IsSome (cells_by cells.old (cell_id prev)) }
+    requires next { IsSome (cells_by cells.old (cell_id next)) }
     requires c { IsSome (cells_by cells.old (cell_id c)) }
-    ensures { cells_by cells.new ≡ put_first (cells_by cells.old) (cell_id holder) (link_of word) (cell_id leader) (cell_id c) }
+    ensures { cells_by cells.new ≡ put_inside (cells_by cells.old) (cell_id m) (cell_id prev) (cell_id next) (cell_id c) }
 {
-    let last = cells.link(leader, CLASS_PREV);
-    cells.set_link(c, CLASS_NEXT, Some(leader));
-    cells.set_link(c, CLASS_PREV, last);
-    cells.set_link(leader, CLASS_PREV, Some(c));
-    take_over(cells, holder, word, leader, c);
+    put_between(cells, prev, next, c);
+    cells.set_link(c, EVEN, Some(m));
 }
 
 // What stood between two atoms of a class leaves.
@@ -304,27 +309,31 @@ fn close(cells: &mut Cells, prev: Cell, next: Cell)
     cells.set_link(next, CLASS_PREV, Some(prev));
 }
 
-// The last one of a class leaves.
-fn shorten(cells: &mut Cells, leader: Cell, prev: Cell)
-    requires leader { IsSome (cells_by cells.old (cell_id leader)) }
-    requires prev { IsSome (cells_by cells.old (cell_id prev)) }
-    ensures { cells_by cells.new ≡ shortened (cells_by cells.old) (cell_id leader) (cell_id prev) }
+// An atom is the last one of a class, behind the one that was.
+fn lengthen(cells: &mut Cells, m: Cell, holder: Cell, word: usize, last: Cell, first: Cell, c: Cell)
+    requires holder { IsSome (cells_by cells.old (cell_id holder)) }
+    requires word { IsLinkWord (cells_by cells.old (cell_id holder)) word }
+    requires last { IsSome (cells_by cells.old (cell_id last)) }
+    requires first { IsSome (cells_by cells.old (cell_id first)) }
+    requires c { IsSome (cells_by cells.old (cell_id c)) }
+    ensures { cells_by cells.new ≡ lengthened (cells_by cells.old) (cell_id m) (cell_id holder) (link_of word) (cell_id last) (cell_id first) (cell_id c) }
 {
-    cells.set_link(prev, CLASS_NEXT, None);
-    cells.set_link(leader, CLASS_PREV, Some(prev));
+    put_between(cells, last, first, c);
+    take_over(cells, holder, word, last, c);
+    cells.set_link(last, EVEN, Some(m));
 }
 
-// The first one of a class leaves, and the next one leads.
-fn pass(cells: &mut Cells, holder: Cell, word: usize, c: Cell, next: Cell)
+// The last one of a class leaves, and the one before it is the last.
+fn shorten(cells: &mut Cells, holder: Cell, word: usize, c: Cell, prev: Cell, first: Cell)
     requires holder { IsSome (cells_by cells.old (cell_id holder)) }
     requires word { IsLinkWord (cells_by cells.old (cell_id holder)) word }
     requires c { IsSome (cells_by cells.old (cell_id c)) }
-    requires next { IsSome (cells_by cells.old (cell_id next)) }
-    ensures { cells_by cells.new ≡ passed (cells_by cells.old) (cell_id holder) (link_of word) (cell_id c) (cell_id next) }
+    requires prev { IsSome (cells_by cells.old (cell_id prev)) }
+    requires first { IsSome (cells_by cells.old (cell_id first)) }
+    ensures { cells_by cells.new ≡ shortened (cells_by cells.old) (cell_id holder) (link_of word) (cell_id c) (cell_id prev) (cell_id first) }
 {
-    let last = cells.link(c, CLASS_PREV);
-    cells.set_link(next, CLASS_PREV, last);
-    take_over(cells, holder, word, c, next);
+    close(cells, prev, first);
+    take_over(cells, holder, word, c, prev);
 }
 
 // The only one of a class leaves. One with none below it, if there is one below the class, takes its place.
@@ -355,9 +364,9 @@ pub fn file_last(cells: &mut Cells, m: Cell, c: Cell)
     let found = find(cells, m, high, arity);
     match found.leader {
         None => begin(cells, found.holder, found.word, c),
-        Some(leader) => {
-            if let Some(last) = cells.link(leader, CLASS_PREV) {
-                lengthen(cells, leader, last, c);
+        Some(last) => {
+            if let Some(first) = cells.link(last, CLASS_NEXT) {
+                lengthen(cells, m, found.holder, found.word, last, first, c);
             }
         }
     }
@@ -370,51 +379,27 @@ pub fn file_before(cells: &mut Cells, m: Cell, d: Cell, c: Cell)
 {
     cells.whole();
     if let Some(prev) = cells.link(d, CLASS_PREV) {
-        if cells.link(prev, CLASS_NEXT).is_some() {
-            put_inside(cells, prev, d, c);
-        } else {
-            let high = cells.number(c, HIGH);
-            let arity = cells.number(c, ARITY);
-            let found = find(cells, m, high, arity);
-            put_leader(cells, found.holder, found.word, d, c);
-        }
+        put_inside(cells, m, prev, d, c);
     }
 }
 
 // The last one of a class leaves it.
-fn unfile_last(cells: &mut Cells, m: Cell, c: Cell, prev: Cell)
+fn unfile_last(cells: &mut Cells, m: Cell, c: Cell, prev: Cell, next: Cell)
     requires classes { IsInItsClass (cells_by cells.old) (cell_id m) (cell_id c) }
+    requires last { ends_class (cells_by cells.old) (cell_id c) ≡ true }
     requires prev { link_in (cells_by cells.old) (cell_id c) CLASS_PREV ≡ Some (cell_id prev) }
-    requires behind { IsSome (link_in (cells_by cells.old) (cell_id prev) CLASS_NEXT) }
-    requires next { link_in (cells_by cells.old) (cell_id c) CLASS_NEXT ≡ None }
+    requires next { link_in (cells_by cells.old) (cell_id c) CLASS_NEXT ≡ Some (cell_id next) }
     ensures { IsUnfiled (cells_by cells.old) (cells_by cells.new) (cell_id m) (cell_id c) }
 {
     cells.whole();
     let high = cells.number(c, HIGH);
     let arity = cells.number(c, ARITY);
     let found = find(cells, m, high, arity);
-    if let Some(leader) = found.leader {
-        shorten(cells, leader, prev);
-    }
-}
-
-// The first one of a class leaves it.
-fn unfile_first(cells: &mut Cells, m: Cell, c: Cell, next: Option<Cell>)
-    requires classes { IsInItsClass (cells_by cells.old) (cell_id m) (cell_id c) }
-    requires first { LeadsClass (cells_by cells.old) (cell_id c) }
-    requires next { link_in (cells_by cells.old) (cell_id c) CLASS_NEXT ≡ option_map cell_id next }
-    ensures { IsUnfiled (cells_by cells.old) (cells_by cells.new) (cell_id m) (cell_id c) }
-{
-    cells.whole();
-    let high = cells.number(c, HIGH);
-    let arity = cells.number(c, ARITY);
-    let found = find(cells, m, high, arity);
-    match next {
-        Some(n) => pass(cells, found.holder, found.word, c, n),
-        None => {
-            let leaf = lowest(cells, c);
-            drop_class(cells, found.holder, found.word, c, leaf);
-        }
+    if is_last(cells, prev) {
+        let leaf = lowest(cells, c);
+        drop_class(cells, found.holder, found.word, c, leaf);
+    } else {
+        shorten(cells, found.holder, found.word, c, prev, next);
     }
 }
 
@@ -426,13 +411,11 @@ pub fn unfile(cells: &mut Cells, m: Cell, c: Cell)
 {
     cells.whole();
     if let Some(prev) = cells.link(c, CLASS_PREV) {
-        let next = cells.link(c, CLASS_NEXT);
-        if cells.link(prev, CLASS_NEXT).is_none() {
-            unfile_first(cells, m, c, next);
-        } else {
-            match next {
-                None => unfile_last(cells, m, c, prev),
-                Some(n) => close(cells, prev, n),
+        if let Some(next) = cells.link(c, CLASS_NEXT) {
+            if is_last(cells, c) {
+                unfile_last(cells, m, c, prev, next);
+            } else {
+                close(cells, prev, next);
             }
         }
     }

@@ -2,8 +2,8 @@ use Rattle.std.proofs.Common.{◌≡◌, ℕ, ◌∷◌, Option, Some, None, IsS
 use Rattle.std.specs.Option.{option_map}
 use Rattle.lmn_web_cells.specs.Cells.{HeldCell, cells_by, IsLinkWord, link_of}
 use Rattle.lmn_web_cells.specs.CellIds.{cell_id}
-use Rattle.lmn_web.specs.Classes.{key_in, place_in, top, begun, Refiled}
-use Rattle.lmn_web.proofs.ClassSteps.{leads, last_alive, last_some, holder_alive, holder_word, filed_begun, filed_longer}
+use Rattle.lmn_web.specs.Classes.{key_in, place_in, top, begun, lengthened, Refiled}
+use Rattle.lmn_web.proofs.ClassSteps.{leads, first_alive, first_some, holder_alive, holder_word, filed_begun, filed_longer}
 use Rattle.lmn_web.proofs.classes.file_last.Goals as goal
 
 pub number-high-requires-clause-there : goal.number-high-requires-clause-there
@@ -19,7 +19,6 @@ begin-requires-clause-holder c =
     let r = c.requires in let t = r.1 in let a = r.2 in
     let found = c.find-found.ensures.place t a.classed.tree in
     let hold : cell_id c.find-found.result.holder ≡ (place_in f p m t).holder = found.0 ∙ ap (λ q. (place_in f q m t).holder) kp in
-    let link : link_of c.find-found.result.word ≡ (place_in f p m t).link = found.1 ∙ ap (λ q. (place_in f q m t).link) kp in
     subst (λ z. IsSome (f z)) (sym hold) (holder_alive f m x r.0 t a p)
 
 pub begin-requires-clause-word : goal.begin-requires-clause-word
@@ -37,18 +36,46 @@ link-requires-clause-there c =
     let f = cells_by c.args.cells.now in let m = cell_id c.args.m in let x = cell_id c.args.c in let p = key_in f x in
     let kp : ◌≡◌ {A = ℕ × ℕ} (c.number-high.result, c.number-arity.result) p = λ i. (c.number-high.ensures i, c.number-arity.ensures i) in
     let r = c.requires in let t = r.1 in let a = r.2 in
-    let l = cell_id c.in-Some.leader in
+    let l = cell_id c.in-Some.last in
     let lead : top (place_in f p m t).tree ≡ Some l = ap (λ q. top (place_in f q m t).tree) (sym kp) ∙ sym (c.find-found.ensures.place t a.classed.tree).2 ∙ ap (option_map cell_id) c.in-Some.is in
     (leads f m x r.0 t a p l lead).alive
+
+pub lengthen-requires-clause-holder : goal.lengthen-requires-clause-holder
+lengthen-requires-clause-holder c =
+    let f = cells_by c.args.cells.now in let m = cell_id c.args.m in let x = cell_id c.args.c in let p = key_in f x in
+    let kp : ◌≡◌ {A = ℕ × ℕ} (c.number-high.result, c.number-arity.result) p = λ i. (c.number-high.ensures i, c.number-arity.ensures i) in
+    let r = c.requires in let t = r.1 in let a = r.2 in
+    let found = c.find-found.ensures.place t a.classed.tree in
+    let hold : cell_id c.find-found.result.holder ≡ (place_in f p m t).holder = found.0 ∙ ap (λ q. (place_in f q m t).holder) kp in
+    subst (λ z. IsSome (f z)) (sym hold) (holder_alive f m x r.0 t a p)
+
+pub lengthen-requires-clause-word : goal.lengthen-requires-clause-word
+lengthen-requires-clause-word c =
+    let f = cells_by c.args.cells.now in let m = cell_id c.args.m in let x = cell_id c.args.c in let p = key_in f x in
+    let kp : ◌≡◌ {A = ℕ × ℕ} (c.number-high.result, c.number-arity.result) p = λ i. (c.number-high.ensures i, c.number-arity.ensures i) in
+    let r = c.requires in let t = r.1 in let a = r.2 in
+    let found = c.find-found.ensures.place t a.classed.tree in
+    let hold : cell_id c.find-found.result.holder ≡ (place_in f p m t).holder = found.0 ∙ ap (λ q. (place_in f q m t).holder) kp in
+    let link : link_of c.find-found.result.word ≡ (place_in f p m t).link = found.1 ∙ ap (λ q. (place_in f q m t).link) kp in
+    subst (λ z. IsLinkWord (f z) c.find-found.result.word) (sym hold) (holder_word f m x r.0 t a p c.find-found.result.word c.find-found.ensures.word link)
 
 pub lengthen-requires-clause-last : goal.lengthen-requires-clause-last
 lengthen-requires-clause-last c =
     let f = cells_by c.args.cells.now in let m = cell_id c.args.m in let x = cell_id c.args.c in let p = key_in f x in
     let kp : ◌≡◌ {A = ℕ × ℕ} (c.number-high.result, c.number-arity.result) p = λ i. (c.number-high.ensures i, c.number-arity.ensures i) in
     let r = c.requires in let t = r.1 in let a = r.2 in
-    let l = cell_id c.in-Some.leader in
+    let l = cell_id c.in-Some.last in
     let lead : top (place_in f p m t).tree ≡ Some l = ap (λ q. top (place_in f q m t).tree) (sym kp) ∙ sym (c.find-found.ensures.place t a.classed.tree).2 ∙ ap (option_map cell_id) c.in-Some.is in
-    last_alive f m x r.0 t a p l lead (cell_id c.in-Some-link.last) (c.link.ensures ∙ ap (option_map cell_id) c.in-Some-link.is)
+    (leads f m x r.0 t a p l lead).alive
+
+pub lengthen-requires-clause-first : goal.lengthen-requires-clause-first
+lengthen-requires-clause-first c =
+    let f = cells_by c.args.cells.now in let m = cell_id c.args.m in let x = cell_id c.args.c in let p = key_in f x in
+    let kp : ◌≡◌ {A = ℕ × ℕ} (c.number-high.result, c.number-arity.result) p = λ i. (c.number-high.ensures i, c.number-arity.ensures i) in
+    let r = c.requires in let t = r.1 in let a = r.2 in
+    let l = cell_id c.in-Some.last in
+    let lead : top (place_in f p m t).tree ≡ Some l = ap (λ q. top (place_in f q m t).tree) (sym kp) ∙ sym (c.find-found.ensures.place t a.classed.tree).2 ∙ ap (option_map cell_id) c.in-Some.is in
+    first_alive f m x r.0 t a p l lead (cell_id c.in-Some-link.first) (c.link.ensures ∙ ap (option_map cell_id) c.in-Some-link.is)
 
 pub returns-in-None : goal.returns-in-None
 returns-in-None c xs t xs' a fresh one =
@@ -64,14 +91,18 @@ pub returns-in-Some-link : goal.returns-in-Some-link
 returns-in-Some-link c xs t xs' a fresh one =
     let f = cells_by c.args.cells.now in let m = cell_id c.args.m in let x = cell_id c.args.c in let p = key_in f x in
     let kp : ◌≡◌ {A = ℕ × ℕ} (c.number-high.result, c.number-arity.result) p = λ i. (c.number-high.ensures i, c.number-arity.ensures i) in
-    let l = cell_id c.in-Some.leader in
+    let found = c.find-found.ensures.place t a.classed.tree in
+    let hold : cell_id c.find-found.result.holder ≡ (place_in f p m t).holder = found.0 ∙ ap (λ q. (place_in f q m t).holder) kp in
+    let link : link_of c.find-found.result.word ≡ (place_in f p m t).link = found.1 ∙ ap (λ q. (place_in f q m t).link) kp in
+    let l = cell_id c.in-Some.last in
     let lead : top (place_in f p m t).tree ≡ Some l = ap (λ q. top (place_in f q m t).tree) (sym kp) ∙ sym (c.find-found.ensures.place t a.classed.tree).2 ∙ ap (option_map cell_id) c.in-Some.is in
-    subst (λ (g : ℕ → Option HeldCell). Refiled f g m (x ∷ xs) p xs') (sym c.lengthen.ensures) (filed_longer f c.whole.ensures m x xs t xs' a fresh one l (cell_id c.in-Some-link.last) lead (c.link.ensures ∙ ap (option_map cell_id) c.in-Some-link.is))
+    let d = cell_id c.in-Some-link.first in
+    subst (λ (g : ℕ → Option HeldCell). Refiled f g m (x ∷ xs) p xs') (sym (c.lengthen.ensures ∙ (λ i. lengthened f m (hold i) (link i) l d x))) (filed_longer f c.whole.ensures m x xs t xs' a fresh one l d lead (c.link.ensures ∙ ap (option_map cell_id) c.in-Some-link.is))
 
 pub returns-in_default : goal.returns-in_default
 returns-in_default c xs t xs' a fresh one =
     let f = cells_by c.args.cells.now in let m = cell_id c.args.m in let x = cell_id c.args.c in let p = key_in f x in
     let kp : ◌≡◌ {A = ℕ × ℕ} (c.number-high.result, c.number-arity.result) p = λ i. (c.number-high.ensures i, c.number-arity.ensures i) in
-    let l = cell_id c.in-Some.leader in
+    let l = cell_id c.in-Some.last in
     let lead : top (place_in f p m t).tree ≡ Some l = ap (λ q. top (place_in f q m t).tree) (sym kp) ∙ sym (c.find-found.ensures.place t a.classed.tree).2 ∙ ap (option_map cell_id) c.in-Some.is in
-    absurd (last_some f m x xs t a p l lead (c.link.ensures ∙ ap (option_map cell_id) c.in_default.is))
+    absurd (first_some f m x xs t a p l lead (c.link.ensures ∙ ap (option_map cell_id) c.in_default.is))

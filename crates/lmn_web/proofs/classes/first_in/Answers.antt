@@ -1,4 +1,4 @@
-use Rattle.std.proofs.Common.{◌≡◌, ℕ, refl, sym, ap, subst, ◌∙◌}
+use Rattle.std.proofs.Common.{◌≡◌, ℕ, Some, refl, sym, ap, subst, ◌∙◌}
 use Rattle.std.specs.Option.{option_map}
 use Rattle.lmn_base.specs.Lists.{In}
 use Rattle.lmn_store_heap.specs.Lists.{from}
@@ -8,7 +8,8 @@ use Rattle.lmn_web_cells.specs.CellIds.{cell_id}
 use Rattle.lmn_web_cells.specs.Runs.{link_in}
 use Rattle.lmn_web.specs.declared.kind.CellKind.TheVariants.{Atom}
 use Rattle.lmn_web.specs.Webs.{list_in}
-use Rattle.lmn_web.specs.Classes.{of_class}
+use Rattle.lmn_web.specs.Classes.{of_class, place_in, top}
+use Rattle.lmn_web.proofs.ClassPlaces.{class_none, leader_in}
 use Rattle.lmn_web.proofs.ListedLemmas.{begins_list, from_in, if_some}
 use Rattle.lmn_web.proofs.ClassReads.{class_begins}
 use Rattle.lmn_web.proofs.classes.first_in.Goals as goal
@@ -17,19 +18,37 @@ pub leader_of-requires-clause-tree : goal.leader_of-requires-clause-tree
 leader_of-requires-clause-tree c =
     let o = c.requires.classes (sym c.is_filed.ensures ∙ c.if-is_filed.true) in (o.0, o.1.tree, o.1.sorted)
 
-pub returns-then-is_filed : goal.returns-then-is_filed
-returns-then-is_filed c =
+pub link-requires-clause-there : goal.link-requires-clause-there
+link-requires-clause-there c =
     let f = cells_by c.args.cells.now in let m = cell_id c.args.m in let p : ℕ × ℕ = (c.args.high, c.args.arity) in
     let o = c.requires.classes (sym c.is_filed.ensures ∙ c.if-is_filed.true) in
-    class_begins f m (list_in f m Atom) o.0 o.1 (λ i. (each_in _ _ m c.requires.line.cells i).1 refl) p (option_map cell_id c.leader_of.result) (sym (c.leader_of.ensures o.0 o.1.tree))
+    let l = cell_id c.in-Some.last in
+    let no_m : In m (list_in f m Atom) → ⊥ = λ i. (each_in _ _ m c.requires.line.cells i).1 refl in
+    let found : top (place_in f p m o.0).tree ≡ Some l = sym (c.leader_of.ensures o.0 o.1.tree) ∙ ap (option_map cell_id) c.in-Some.is in
+    (each_in _ _ l c.requires.line.cells (o.1.inside l (leader_in f m (list_in f m Atom) o.0 o.1 no_m p l found).0)).0
+
+pub returns-in-None : goal.returns-in-None
+returns-in-None c =
+    let f = cells_by c.args.cells.now in let m = cell_id c.args.m in let p : ℕ × ℕ = (c.args.high, c.args.arity) in
+    let o = c.requires.classes (sym c.is_filed.ensures ∙ c.if-is_filed.true) in
+    let no_m : In m (list_in f m Atom) → ⊥ = λ i. (each_in _ _ m c.requires.line.cells i).1 refl in
+    sym (class_none f m (list_in f m Atom) o.0 o.1 no_m p (sym (c.leader_of.ensures o.0 o.1.tree) ∙ ap (option_map cell_id) c.in-None.is))
+
+pub returns-in-Some : goal.returns-in-Some
+returns-in-Some c =
+    let f = cells_by c.args.cells.now in let m = cell_id c.args.m in let p : ℕ × ℕ = (c.args.high, c.args.arity) in
+    let o = c.requires.classes (sym c.is_filed.ensures ∙ c.if-is_filed.true) in
+    let l = cell_id c.in-Some.last in let own = of_class f p (list_in f m Atom) in
+    let no_m : In m (list_in f m Atom) → ⊥ = λ i. (each_in _ _ m c.requires.line.cells i).1 refl in
+    subst (λ u. from u own ≡ own) c.link.ensures (class_begins f m (list_in f m Atom) o.0 o.1 no_m p l (sym (c.leader_of.ensures o.0 o.1.tree) ∙ ap (option_map cell_id) c.in-Some.is))
 
 pub seek-requires-clause-start : goal.seek-requires-clause-start
 seek-requires-clause-start c =
     let f = cells_by c.args.cells.now in let m = cell_id c.args.m in let all = list_in f m Atom in
-    if_some cell_id c.link.result (λ q. In q all) (λ q e. from_in (link_in f m 3) all (begins_list f m 3 all c.requires.line) q (c.link.ensures ∙ e))
+    if_some cell_id c.link-else-is_filed.result (λ q. In q all) (λ q e. from_in (link_in f m 3) all (begins_list f m 3 all c.requires.line) q (c.link-else-is_filed.ensures ∙ e))
 
 pub returns-else-is_filed : goal.returns-else-is_filed
 returns-else-is_filed c =
     let f = cells_by c.args.cells.now in let m = cell_id c.args.m in let all = list_in f m Atom in let p : ℕ × ℕ = (c.args.high, c.args.arity) in
-    let begins : from (option_map cell_id c.link.result) all ≡ all = subst (λ o. from o all ≡ all) c.link.ensures (begins_list f m 3 all c.requires.line) in
+    let begins : from (option_map cell_id c.link-else-is_filed.result) all ≡ all = subst (λ o. from o all ≡ all) c.link-else-is_filed.ensures (begins_list f m 3 all c.requires.line) in
     c.seek.ensures ∙ ap (of_class f p) begins

@@ -1,4 +1,4 @@
-use Rattle.std.proofs.Common.{◌≡◌, ℕ, sym, ap, subst, ◌∙◌}
+use Rattle.std.proofs.Common.{◌≡◌, ℕ, true, false, sym, ap, subst, ◌∙◌}
 use Rattle.std.specs.Option.{option_map}
 use Rattle.lmn_store_heap.specs.Lists.{from, after}
 use Rattle.lmn_store_heap.proofs.ListLemmas.{each_in}
@@ -6,13 +6,24 @@ use Rattle.lmn_web_cells.specs.Cells.{cells_by}
 use Rattle.lmn_web_cells.specs.CellIds.{cell_id}
 use Rattle.lmn_web.specs.declared.kind.CellKind.TheVariants.{Atom}
 use Rattle.lmn_web.specs.Webs.{list_in}
-use Rattle.lmn_web.specs.Classes.{key_in, is_key, of_class}
+use Rattle.lmn_base.specs.Lists.{In}
+use Rattle.lmn_web.specs.Classes.{key_in, is_key, leaders, of_class}
+use Rattle.lmn_web.proofs.ClassEnds.{even_alive, ends_lead, files_membrane, lead_ends}
 use Rattle.lmn_web.proofs.ListedLemmas.{goes_on}
 use Rattle.lmn_web.proofs.SeekLemmas.{next_some}
 use Rattle.lmn_web.proofs.Reclassing.{key_same}
 use Rattle.lmn_web.proofs.ClassReads.{class_goes_on}
 use Rattle.lmn_web.proofs.classes.next_in.Goals as goal
 use Rattle.lmn_store_heap.proofs.Filters.{filter_after}
+
+pub is_last-requires-clause-there : goal.is_last-requires-clause-there
+is_last-requires-clause-there c = (each_in _ _ (cell_id c.args.c) c.requires.line.cells c.requires.inside).0
+
+pub is_last-requires-clause-even : goal.is_last-requires-clause-even
+is_last-requires-clause-even c d e =
+    let f = cells_by c.args.cells.now in let m = cell_id c.args.m in let filed = sym c.is_filed.ensures ∙ c.if-is_filed.true in
+    let o = c.requires.classes filed in
+    even_alive f m (list_in f m Atom) o.0 o.1 c.requires.kinds (files_membrane f m filed) c.requires.there (λ x i. (each_in _ _ x c.requires.line.cells i).0) (cell_id c.args.c) c.requires.inside d e
 
 pub link-requires-clause-there : goal.link-requires-clause-there
 link-requires-clause-there c = (each_in _ _ (cell_id c.args.c) c.requires.line.cells c.requires.inside).0
@@ -26,11 +37,19 @@ number-requires-clause-there c = (each_in _ _ (cell_id c.args.c) c.requires.line
 pub number-requires-else-is_filed-clause-there : goal.number-requires-else-is_filed-clause-there
 number-requires-else-is_filed-clause-there c = (each_in _ _ (cell_id c.args.c) c.requires.line.cells c.requires.inside).0
 
-pub returns-then-is_filed : goal.returns-then-is_filed
-returns-then-is_filed c =
-    let f = cells_by c.args.cells.now in let m = cell_id c.args.m in let x = cell_id c.args.c in let own = of_class f (key_in f x) (list_in f m Atom) in
-    let o = c.requires.classes (sym c.is_filed.ensures ∙ c.if-is_filed.true) in
-    subst (λ u. from u own ≡ after x own) c.link.ensures (class_goes_on f m (list_in f m Atom) o.0 o.1 c.requires.line.once x c.requires.inside)
+pub returns-then-is_last : goal.returns-then-is_last
+returns-then-is_last c =
+    let f = cells_by c.args.cells.now in let m = cell_id c.args.m in let x = cell_id c.args.c in let filed = sym c.is_filed.ensures ∙ c.if-is_filed.true in
+    let o = c.requires.classes filed in
+    let last = ends_lead f m (list_in f m Atom) o.0 o.1 c.requires.kinds (files_membrane f m filed) x c.requires.inside (sym c.is_last.ensures ∙ c.if-is_last.true) in
+    sym ((class_goes_on f m (list_in f m Atom) o.0 o.1 c.requires.line.once x c.requires.inside).0 last)
+
+pub returns-else-is_last : goal.returns-else-is_last
+returns-else-is_last c =
+    let f = cells_by c.args.cells.now in let m = cell_id c.args.m in let x = cell_id c.args.c in let own = of_class f (key_in f x) (list_in f m Atom) in let filed = sym c.is_filed.ensures ∙ c.if-is_filed.true in
+    let o = c.requires.classes filed in
+    let inner : In x (leaders o.0) → ⊥ = λ i. (let z : true ≡ false = sym (lead_ends f m (list_in f m Atom) o.0 o.1 c.requires.kinds (files_membrane f m filed) x i) ∙ sym c.is_last.ensures ∙ c.if-is_last.false in cc) in
+    subst (λ u. from u own ≡ after x own) c.link.ensures ((class_goes_on f m (list_in f m Atom) o.0 o.1 c.requires.line.once x c.requires.inside).1 inner)
 
 pub seek-requires-clause-start : goal.seek-requires-clause-start
 seek-requires-clause-start c =

@@ -30,6 +30,9 @@ next_in-requires-clause-membrane c sure =
     let home : link_in f x HOME ≡ Some n = sym (home_same f (list_in f) x) ∙ ap (λ (z : List Row). home_at (web_by z) x) c.self.view_is ∙ c.home.ensures ∙ ap (option_map cell_id) c.in-Some.is in
     filed_membrane f _ n W.web (W.web.listed.homes n x home).0 sure
 
+pub next_in-requires-clause-kinds : goal.next_in-requires-clause-kinds
+next_in-requires-clause-kinds c z i = c.self.invariant.web.listed.kinds (cell_id c.in-Some.home) z Atom i
+
 pub next_in-requires-clause-line : goal.next_in-requires-clause-line
 next_in-requires-clause-line c =
     let f = cells_by c.self.inside.cells in let x = cell_id c.args.c in let W = c.self.invariant in let n = cell_id c.in-Some.home in
