@@ -1,4 +1,4 @@
--- Walks in the tree of the first atoms of the classes of a membrane.
+-- Walks in the tree of the last atoms of the classes of a membrane.
 use Rattle.std.proofs.Common.{◌≡◌, ◌==◌, ◌≤◌, ◌<◌, ◌+◌, ◌/◌, ℕ, zero, suc, Bool, true, false, List, [], ◌∷◌, if◌then◌else◌, length, length-append, map, Option, Some, None, IsSome, is_some, refl, sym, ap, subst, ◌∙◌, inl, inr, arith}
 use Rattle.std.proofs.lemmas.Bool.{eqb-true}
 use Rattle.std.proofs.lemmas.List.{length-map}
@@ -10,7 +10,7 @@ use Rattle.lmn_web_cells.specs.Rows.{Row, items_in}
 use Rattle.lmn_web_cells.specs.Cells.{HeldCell, cell_by, cells_by}
 use Rattle.lmn_web_cells.specs.Runs.{link_in}
 use Rattle.lmn_web_cells.proofs.CellRows.{if_yes}
-use Rattle.lmn_web.specs.Classes.{ClassTree, Bare, Fork, ClassPlace, Hung, leaders, top, IsTree, IsSorted, rest_at, is_odd, is_key, key_in, class_place, place_in, lowest, lowest_below}
+use Rattle.lmn_web.specs.Classes.{ClassTree, Bare, Fork, ClassPlace, Hung, lasts, top, IsTree, IsSorted, rest_at, is_odd, is_key, key_in, class_place, place_in, lowest, lowest_below}
 use Rattle.lmn_web_cells.specs.Links.{EVEN, ODD, LEADERS}
 use Rattle.lmn_web.proofs.ClassTrees.{sorted_once}
 
@@ -37,15 +37,15 @@ bulk_is f zero first (Fork x a b) q l = absurd (omega (arith, l))
 bulk_is f (suc n) first (Fork x a b) q l =
     subst (λ o. bulk f (suc n) o ≡ suc (size a + size b)) (sym q.0) (λ i. suc (bulk_is f n (link_in f x EVEN) a q.2 (omega (arith, l)) i + bulk_is f n (link_in f x ODD) b q.3 (omega (arith, l)) i))
 
-size_leaders : (t : ClassTree) → length (leaders t) ≡ size t
-size_leaders Bare = refl
-size_leaders (Fork l a b) = ap suc (length-append (leaders a) (leaders b) ∙ (λ i. size_leaders a i + size_leaders b i))
+size_lasts : (t : ClassTree) → length (lasts t) ≡ size t
+size_lasts Bare = refl
+size_lasts (Fork l a b) = ap suc (length-append (lasts a) (lasts b) ∙ (λ i. size_lasts a i + size_lasts b i))
 
 -- its cells are there
-tree_alive : (f : ℕ → Option HeldCell) (first : Option ℕ) (t : ClassTree) → IsTree f first t → (l : ℕ) → In l (leaders t) → IsSome (f l)
+tree_alive : (f : ℕ → Option HeldCell) (first : Option ℕ) (t : ClassTree) → IsTree f first t → (l : ℕ) → In l (lasts t) → IsSome (f l)
 tree_alive f first Bare q l i = absurd i
 tree_alive f first (Fork x a b) q l (inl e) = subst (λ z. IsSome (f z)) e q.1
-tree_alive f first (Fork x a b) q l (inr i) = elim (in_either l (leaders a) (leaders b) i) [ inl j ↦ tree_alive f (link_in f x EVEN) a q.2 l j | inr j ↦ tree_alive f (link_in f x ODD) b q.3 l j ]
+tree_alive f first (Fork x a b) q l (inr i) = elim (in_either l (lasts a) (lasts b) i) [ inl j ↦ tree_alive f (link_in f x EVEN) a q.2 l j | inr j ↦ tree_alive f (link_in f x ODD) b q.3 l j ]
 
 -- a cell that is there has a row
 row_in : (rows : List Row) (b : ℕ) → IsSome (cells_by rows b) → In b (map (λ (r : Row). r.at) rows)
@@ -59,8 +59,8 @@ row_in (r ∷ rows) b s = by (r.at == b) refl (λ q. row_in rows b q) s
 -- so there are no more than rows
 pub tree_small : (rows : List Row) (first : Option ℕ) (d : ℕ) (t : ClassTree) → IsTree (cells_by rows) first t → IsSorted (cells_by rows) d t → size t ≤ length rows
 tree_small rows first d t q s =
-    let few = not_longer (leaders t) (map (λ (r : Row). r.at) rows) (sorted_once (cells_by rows) d t s) (λ l i. row_in rows l (tree_alive (cells_by rows) first t q l i)) in
-    let long = length-map rows (λ (r : Row). r.at) in let all = size_leaders t in omega (arith, few, long, all)
+    let few = not_longer (lasts t) (map (λ (r : Row). r.at) rows) (sorted_once (cells_by rows) d t s) (λ l i. row_in rows l (tree_alive (cells_by rows) first t q l i)) in
+    let long = length-map rows (λ (r : Row). r.at) in let all = size_lasts t in omega (arith, few, long, all)
 
 -- one tree hangs at a link
 pub same_trees : (f : ℕ → Option HeldCell) (first : Option ℕ) (t u : ClassTree) → IsTree f first t → IsTree f first u → t ≡ u
@@ -206,32 +206,32 @@ nearer_size Bare b = omega arith
 nearer_size (Fork l x y) b = omega arith
 
 -- a step down
-lowest_step : (h k l : ℕ) (a b : ClassTree) → lowest h k (Fork l a b) ≡ found_in (record { holder = h; link = k; leader = Some l }) l (near_side a) (nearer a b)
+lowest_step : (h k l : ℕ) (a b : ClassTree) → lowest h k (Fork l a b) ≡ found_in (record { holder = h; link = k; last = Some l }) l (near_side a) (nearer a b)
 lowest_step h k l Bare Bare = refl
 lowest_step h k l Bare (Fork r x y) = refl
 lowest_step h k l (Fork r x y) b = refl
 
 -- the first one
-lowest_first : (c : ℕ) (a b : ClassTree) → found_in (record { holder = c; link = near_side a; leader = top (nearer a b) }) c (near_side a) (nearer a b) ≡ lowest_below c a b
+lowest_first : (c : ℕ) (a b : ClassTree) → found_in (record { holder = c; link = near_side a; last = top (nearer a b) }) c (near_side a) (nearer a b) ≡ lowest_below c a b
 lowest_first c Bare Bare = refl
 lowest_first c Bare (Fork r x y) = refl
 lowest_first c (Fork r x y) b = refl
 
 -- it is there, and so is what holds it
-hung_lowest : (f : ℕ → Option HeldCell) (h k : ℕ) (t : ClassTree) → IsTree f (link_in f h k) t → IsSome (f h) → k < 7 → (l : ℕ) → (lowest h k t).leader ≡ Some l → IsSome (f l) × IsSome (f (lowest h k t).holder) × ((lowest h k t).link < 7)
+hung_lowest : (f : ℕ → Option HeldCell) (h k : ℕ) (t : ClassTree) → IsTree f (link_in f h k) t → IsSome (f h) → k < 7 → (l : ℕ) → (lowest h k t).last ≡ Some l → IsSome (f l) × IsSome (f (lowest h k t).holder) × ((lowest h k t).link < 7)
 hung_lowest f h k Bare q s small l e = absurd cc
 hung_lowest f h k (Fork r Bare Bare) q s small l e = (subst (λ z. IsSome (f z)) (let w : r ≡ l = cc in w) q.1, s, small)
 hung_lowest f h k (Fork r Bare (Fork x y z)) q s small l e = hung_lowest f r ODD (Fork x y z) q.3 q.1 (omega arith) l e
 hung_lowest f h k (Fork r (Fork x y z) b) q s small l e = hung_lowest f r EVEN (Fork x y z) q.2 q.1 (omega arith) l e
 
-pub lowest_there : (f : ℕ → Option HeldCell) (c : ℕ) (a b : ClassTree) → IsTree f (link_in f c EVEN) a → IsTree f (link_in f c ODD) b → IsSome (f c) → (l : ℕ) → (lowest_below c a b).leader ≡ Some l → IsSome (f l) × IsSome (f (lowest_below c a b).holder) × ((lowest_below c a b).link < 7)
+pub lowest_there : (f : ℕ → Option HeldCell) (c : ℕ) (a b : ClassTree) → IsTree f (link_in f c EVEN) a → IsTree f (link_in f c ODD) b → IsSome (f c) → (l : ℕ) → (lowest_below c a b).last ≡ Some l → IsSome (f l) × IsSome (f (lowest_below c a b).holder) × ((lowest_below c a b).link < 7)
 lowest_there f c Bare b q r s l e = hung_lowest f c ODD b r s (omega arith) l e
 lowest_there f c (Fork x y z) b q r s l e = hung_lowest f c EVEN (Fork x y z) q s (omega arith) l e
 
 -- What is left of it: from here on it gives what it gives from the start.
 pub record Down (f : ℕ → Option HeldCell) (c n : ℕ) (last next : Hung) : Type 0 where
   pub tree : ClassTree
-  pub hangs : IsTree f next.leader tree
+  pub hangs : IsTree f next.last tree
   pub short : size tree ≤ n
   pub same : (a b : ClassTree) → IsTree f (link_in f c EVEN) a → IsTree f (link_in f c ODD) b → found_in last next.holder next.link tree ≡ lowest_below c a b
 
@@ -239,13 +239,13 @@ pub record Down (f : ℕ → Option HeldCell) (c n : ℕ) (last next : Hung) : T
 pub record Below (f : ℕ → Option HeldCell) (c : ℕ) (w : Hung) : Type 0 where
   pub holder : w.holder ≡ c
   pub link : w.link ≡ (if is_some (link_in f c EVEN) then EVEN else ODD)
-  pub leader : w.leader ≡ link_in f c w.link
+  pub last : w.last ≡ link_in f c w.link
 
 -- it is the nearer one
-below_is : (f : ℕ → Option HeldCell) (c : ℕ) (w : Hung) (a b : ClassTree) → Below f c w → IsTree f (link_in f c EVEN) a → IsTree f (link_in f c ODD) b → w ≡ record { holder = c; link = near_side a; leader = top (nearer a b) }
+below_is : (f : ℕ → Option HeldCell) (c : ℕ) (w : Hung) (a b : ClassTree) → Below f c w → IsTree f (link_in f c EVEN) a → IsTree f (link_in f c ODD) b → w ≡ record { holder = c; link = near_side a; last = top (nearer a b) }
 below_is f c w a b r q s =
     let n = nearer_hangs f c a b q s in let side : w.link ≡ near_side a = r.link ∙ sym n.1 in
-    λ i. record { holder = r.holder i; link = side i; leader = (r.leader ∙ ap (link_in f c) side ∙ top_is f (link_in f c (near_side a)) (nearer a b) n.0) i }
+    λ i. record { holder = r.holder i; link = side i; last = (r.last ∙ ap (link_in f c) side ∙ top_is f (link_in f c (near_side a)) (nearer a b) n.0) i }
 
 -- at the start
 pub down_all : (f : ℕ → Option HeldCell) (c n : ℕ) (a b : ClassTree) → IsTree f (link_in f c EVEN) a → IsTree f (link_in f c ODD) b → size a ≤ n → size b ≤ n → (w : Hung) → Below f c w → Down f c n w w
@@ -262,10 +262,10 @@ down_all f c n a b q r la lb w below =
     by (Fork l x y) k = k
 
 -- a step
-pub down_next : (f : ℕ → Option HeldCell) (c n d : ℕ) (last next w : Hung) → Down f c n last next → next.leader ≡ Some d → Below f d w → Down f c n next w × (bulk f n w.leader < bulk f n next.leader)
+pub down_next : (f : ℕ → Option HeldCell) (c n d : ℕ) (last next w : Hung) → Down f c n last next → next.last ≡ Some d → Below f d w → Down f c n next w × (bulk f n w.last < bulk f n next.last)
 down_next f c n d last next w down is below = by down.tree (subst (λ o. IsTree f o down.tree) is down.hangs) down.short down.same
   where
-    by : (t : ClassTree) → IsTree f (Some d) t → size t ≤ n → ((a b : ClassTree) → IsTree f (link_in f c EVEN) a → IsTree f (link_in f c ODD) b → found_in last next.holder next.link t ≡ lowest_below c a b) → Down f c n next w × (bulk f n w.leader < bulk f n next.leader)
+    by : (t : ClassTree) → IsTree f (Some d) t → size t ≤ n → ((a b : ClassTree) → IsTree f (link_in f c EVEN) a → IsTree f (link_in f c ODD) b → found_in last next.holder next.link t ≡ lowest_below c a b) → Down f c n next w × (bulk f n w.last < bulk f n next.last)
     by Bare q short same = absurd (let e : ◌≡◌ {A = Option ℕ} (Some d) None = q in cc)
     by (Fork x a b) q short same =
         let e : ◌≡◌ {A = Option ℕ} (Some d) (Some x) = q.0 in let s : x ≡ d = cc in
@@ -274,10 +274,10 @@ down_next f c n d last next w down is below = by down.tree (subst (λ o. IsTree 
         let hangs = nearer_hangs f d a b even odd in
         let top_there : IsTree f (top (nearer a b)) (nearer a b) = subst (λ o. IsTree f o (nearer a b)) (top_is f (link_in f d (near_side a)) (nearer a b) hangs.0) hangs.0 in
         let few = nearer_size a b in
-        let whole : bulk f n next.leader ≡ suc (size a + size b) = ap (bulk f n) is ∙ bulk_is f n (Some d) (Fork x a b) q short in
+        let whole : bulk f n next.last ≡ suc (size a + size b) = ap (bulk f n) is ∙ bulk_is f n (Some d) (Fork x a b) q short in
         let part : bulk f n (top (nearer a b)) ≡ size (nearer a b) = bulk_is f n (top (nearer a b)) (nearer a b) top_there (omega (arith, few, short)) in
-        let now : next ≡ record { holder = next.holder; link = next.link; leader = Some x } = (λ i. record { holder = next.holder; link = next.link; leader = (is ∙ e) i }) in
-        subst (λ (y : Hung). Down f c n next y × (bulk f n y.leader < bulk f n next.leader)) (sym (below_is f d w a b below even odd)) (
+        let now : next ≡ record { holder = next.holder; link = next.link; last = Some x } = (λ i. record { holder = next.holder; link = next.link; last = (is ∙ e) i }) in
+        subst (λ (y : Hung). Down f c n next y × (bulk f n y.last < bulk f n next.last)) (sym (below_is f d w a b below even odd)) (
           record {
             tree = nearer a b;
             hangs = top_there;
@@ -288,7 +288,7 @@ down_next f c n d last next w down is below = by down.tree (subst (λ o. IsTree 
         )
 
 -- its end
-pub down_none : (f : ℕ → Option HeldCell) (c n : ℕ) (last next : Hung) → Down f c n last next → next.leader ≡ None → (a b : ClassTree) → IsTree f (link_in f c EVEN) a → IsTree f (link_in f c ODD) b → last ≡ lowest_below c a b
+pub down_none : (f : ℕ → Option HeldCell) (c n : ℕ) (last next : Hung) → Down f c n last next → next.last ≡ None → (a b : ClassTree) → IsTree f (link_in f c EVEN) a → IsTree f (link_in f c ODD) b → last ≡ lowest_below c a b
 down_none f c n last next down is a b q r = by down.tree (subst (λ o. IsTree f o down.tree) is down.hangs) (down.same a b q r)
   where
     by : (t : ClassTree) → IsTree f None t → found_in last next.holder next.link t ≡ lowest_below c a b → last ≡ lowest_below c a b
@@ -296,5 +296,5 @@ down_none f c n last next down is a b q r = by down.tree (subst (λ o. IsTree f 
     by (Fork x y z) s same = absurd (let e : ◌≡◌ {A = Option ℕ} None (Some x) = s.0 in cc)
 
 -- the next to be looked at is there
-pub down_there : (f : ℕ → Option HeldCell) (c n d : ℕ) (last next : Hung) → Down f c n last next → next.leader ≡ Some d → IsSome (f d)
+pub down_there : (f : ℕ → Option HeldCell) (c n d : ℕ) (last next : Hung) → Down f c n last next → next.last ≡ Some d → IsSome (f d)
 down_there f c n d last next down is = hung_there f d down.tree (subst (λ o. IsTree f o down.tree) is down.hangs)

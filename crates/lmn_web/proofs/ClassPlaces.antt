@@ -6,7 +6,7 @@ use Rattle.lmn_store_heap.proofs.ListLemmas.{in_left, in_right}
 use Rattle.lmn_web_cells.specs.Cells.{HeldCell, links_of}
 use Rattle.lmn_web_cells.specs.Runs.{link_in}
 use Rattle.lmn_web_cells.proofs.LineLemmas.{link_same, link_other}
-use Rattle.lmn_web.specs.Classes.{Touches, ClassTree, Bare, Fork, leaders, top, IsTree, IsSorted, AreClassed, ClassPlace, place_in, is_odd, rest_at, is_key, key_in, of_class, link_written, taken_over}
+use Rattle.lmn_web.specs.Classes.{Touches, ClassTree, Bare, Fork, lasts, top, IsTree, IsSorted, AreClassed, ClassPlace, place_in, is_odd, rest_at, is_key, key_in, of_class, link_written, taken_over}
 use Rattle.lmn_web_cells.specs.Links.{EVEN, ODD, LEADERS}
 use Rattle.lmn_web.proofs.ClassTrees.{Holds, Placed, placed, tree_frame}
 use Rattle.lmn_web.proofs.ClassWrites.{kept, length_kept, touches_tree}
@@ -90,21 +90,21 @@ module _ (f : ℕ → Option HeldCell) (m : ℕ) (xs : List ℕ) (t : ClassTree)
   at = placed f p m LEADERS 0 t old.sorted (λ i. no_m (old.inside m i))
 
   -- the other parts of the tree
-  pub outer_in : (z : ℕ) → In z at.hole.outer → In z (leaders t)
-  outer_in z i = subst (λ u. In z (leaders u)) at.hole.is (at.hole.outs place.tree z i)
+  pub outer_in : (z : ℕ) → In z at.hole.outer → In z (lasts t)
+  outer_in z i = subst (λ u. In z (lasts u)) at.hole.is (at.hole.outs place.tree z i)
 
-  pub tree_in : (z : ℕ) → In z (leaders place.tree) → In z (leaders t)
-  tree_in z i = subst (λ u. In z (leaders u)) at.hole.is (at.hole.ins place.tree z i)
+  pub tree_in : (z : ℕ) → In z (lasts place.tree) → In z (lasts t)
+  tree_in z i = subst (λ u. In z (lasts u)) at.hole.is (at.hole.ins place.tree z i)
 
-  outer_or : (z : ℕ) → In z (leaders t) → In z at.hole.outer ⊎ In z (leaders place.tree)
-  outer_or z i = at.hole.parts place.tree z (subst (λ u. In z (leaders u)) (sym at.hole.is) i)
+  outer_or : (z : ℕ) → In z (lasts t) → In z at.hole.outer ⊎ In z (lasts place.tree)
+  outer_or z i = at.hole.parts place.tree z (subst (λ u. In z (lasts u)) (sym at.hole.is) i)
 
   -- where it hangs
-  pub holds_leaders : Holds m LEADERS (leaders t) place.holder place.link
-  holds_leaders = holds_more m at.hole.outer (leaders t) place.holder place.link outer_in at.hole.holds
+  pub holds_lasts : Holds m LEADERS (lasts t) place.holder place.link
+  holds_lasts = holds_more m at.hole.outer (lasts t) place.holder place.link outer_in at.hole.holds
 
   pub holds_atoms : Holds m LEADERS xs place.holder place.link
-  holds_atoms = holds_more m (leaders t) xs place.holder place.link old.inside holds_leaders
+  holds_atoms = holds_more m (lasts t) xs place.holder place.link old.inside holds_lasts
 
   pub link_small : place.link < 8
   link_small = holds_small m xs place.holder place.link holds_atoms
@@ -117,21 +117,21 @@ module _ (f : ℕ → Option HeldCell) (m : ℕ) (xs : List ℕ) (t : ClassTree)
   taken_place g x n b j e o z = taken_far g place.holder place.link x n b j e o (holds_far m xs place.holder place.link j holds_atoms e o z)
 
   -- and those by which other atoms lead to the membrane
-  pub place_inner : (g : ℕ → Option HeldCell) (v : Option ℕ) (z : ℕ) → (In z (leaders t) → ⊥) → link_in (link_written g place.holder place.link v) z EVEN ≡ link_in g z EVEN
-  place_inner g v z n = holds_inner m (leaders t) place.holder place.link holds_leaders g v z n
+  pub place_inner : (g : ℕ → Option HeldCell) (v : Option ℕ) (z : ℕ) → (In z (lasts t) → ⊥) → link_in (link_written g place.holder place.link v) z EVEN ≡ link_in g z EVEN
+  place_inner g v z n = holds_inner m (lasts t) place.holder place.link holds_lasts g v z n
 
-  pub taken_inner : (g : ℕ → Option HeldCell) (x n z : ℕ) → z ≢ n → (In z (leaders t) → ⊥) → link_in (taken_over g place.holder place.link x n) z EVEN ≡ link_in g z EVEN
+  pub taken_inner : (g : ℕ → Option HeldCell) (x n z : ℕ) → z ≢ n → (In z (lasts t) → ⊥) → link_in (taken_over g place.holder place.link x n) z EVEN ≡ link_in g z EVEN
   taken_inner g x n z d o =
       let g1 = link_written g n EVEN (link_in g x EVEN) in
       place_inner (link_written g1 n ODD (link_in g x ODD)) (Some n) z o ∙ link_by g1 n ODD (link_in g x ODD) z EVEN d ∙ link_by g n EVEN (link_in g x EVEN) z EVEN d
 
   -- the last atom of the class
-  pub leader_in : (l : ℕ) → top place.tree ≡ Some l → In l (leaders t) × (is_key (key_in f l) p ≡ true)
-  leader_in l e = let w = fork_of place.tree l e in (tree_in l (subst (λ u. In l (leaders u)) (sym w.2) (inl refl)), at.own l e)
+  pub last_in : (l : ℕ) → top place.tree ≡ Some l → In l (lasts t) × (is_key (key_in f l) p ≡ true)
+  last_in l e = let w = fork_of place.tree l e in (tree_in l (subst (λ u. In l (lasts u)) (sym w.2) (inl refl)), at.own l e)
 
   -- there is none
-  pub leader_none : top place.tree ≡ None → (l : ℕ) → In l (leaders t) → is_key (key_in f l) p ≡ false
-  leader_none e l i = elim (outer_or l i) [ inl o ↦ at.hole.others l o | inr j ↦ absurd (subst (λ u. In l (leaders u)) (bare_of place.tree e) j) ]
+  pub last_none : top place.tree ≡ None → (l : ℕ) → In l (lasts t) → is_key (key_in f l) p ≡ false
+  last_none e l i = elim (outer_or l i) [ inl o ↦ at.hole.others l o | inr j ↦ absurd (subst (λ u. In l (lasts u)) (bare_of place.tree e) j) ]
 
   -- so the membrane has no atom of the class
   pub class_none : top place.tree ≡ None → of_class f p xs ≡ []
@@ -141,26 +141,26 @@ module _ (f : ℕ → Option HeldCell) (m : ℕ) (xs : List ℕ) (t : ClassTree)
       by [] h = refl
       by (z ∷ zs) h =
           let w = h z (inl refl) in let o = old.every z w.0 in
-          let n : true ≡ false = sym w.1 ∙ ap (λ q. is_key q p) (sym o.2) ∙ leader_none e o.0 o.1 in absurd cc
+          let n : true ≡ false = sym w.1 ∙ ap (λ q. is_key q p) (sym o.2) ∙ last_none e o.0 o.1 in absurd cc
 
   -- Another tree there, with the same cells of other classes
-  module _ (u : ClassTree) (sub : (z : ℕ) → is_key (key_in f z) p ≡ false → In z (leaders place.tree) → In z (leaders u)) (sup : (z : ℕ) → is_key (key_in f z) p ≡ false → In z (leaders u) → In z (leaders place.tree)) where
-    pub fill_stay : (l : ℕ) → In l (leaders t) → is_key (key_in f l) p ≡ false → In l (leaders (at.hole.fill u))
+  module _ (u : ClassTree) (sub : (z : ℕ) → is_key (key_in f z) p ≡ false → In z (lasts place.tree) → In z (lasts u)) (sup : (z : ℕ) → is_key (key_in f z) p ≡ false → In z (lasts u) → In z (lasts place.tree)) where
+    pub fill_stay : (l : ℕ) → In l (lasts t) → is_key (key_in f l) p ≡ false → In l (lasts (at.hole.fill u))
     fill_stay l i e = elim (outer_or l i) [ inl o ↦ at.hole.outs u l o | inr j ↦ at.hole.ins u l (sub l e j) ]
 
-    pub fill_were : (l : ℕ) → In l (leaders (at.hole.fill u)) → is_key (key_in f l) p ≡ false → In l (leaders t)
+    pub fill_were : (l : ℕ) → In l (lasts (at.hole.fill u)) → is_key (key_in f l) p ≡ false → In l (lasts t)
     fill_were l i e = elim (at.hole.parts u l i) [ inl o ↦ outer_in l o | inr j ↦ tree_in l (sup l e j) ]
 
     pub fill_sorted : IsSorted f place.depth u → IsSorted f 0 (at.hole.fill u)
     fill_sorted s = at.hole.filled u s (λ z i. elim (bool_cases (is_key (key_in f z) p)) [ inl e ↦ inl e | inr e ↦ inr (sup z e i) ])
 
-  pub fill_heads : (u : ClassTree) (h : Option ℕ) → ((z : ℕ) → is_key (key_in f z) p ≡ true → In z (leaders u) → h ≡ Some z) → (l : ℕ) → In l (leaders (at.hole.fill u)) → is_key (key_in f l) p ≡ true → h ≡ Some l
-  fill_heads u h own l i e = elim (at.hole.parts u l i) [ inl o ↦ absurd (let w : true ≡ false = sym e ∙ at.hole.others l o in cc) | inr j ↦ own l e j ]
+  pub fill_ends : (u : ClassTree) (h : Option ℕ) → ((z : ℕ) → is_key (key_in f z) p ≡ true → In z (lasts u) → h ≡ Some z) → (l : ℕ) → In l (lasts (at.hole.fill u)) → is_key (key_in f l) p ≡ true → h ≡ Some l
+  fill_ends u h own l i e = elim (at.hole.parts u l i) [ inl o ↦ absurd (let w : true ≡ false = sym e ∙ at.hole.others l o in cc) | inr j ↦ own l e j ]
 
   -- A cell takes over what hangs below another, where the class stands
   module _ (f1 : ℕ → Option HeldCell) (x n : ℕ) (a b : ClassTree) (there : (c : ℕ) → IsSome (f c) → IsSome (f1 c)) (long : (c : ℕ) → IsSome (f c) → length (links_of (f1 c)) ≡ 8)
       (outside : (c j : ℕ) → Holds m LEADERS at.hole.outer c j → link_in f1 c j ≡ link_in f c j) (even : IsTree f1 (link_in f1 x EVEN) a) (odd : IsTree f1 (link_in f1 x ODD) b)
-      (inner : (z : ℕ) → In z (leaders a ++ leaders b) → In z (leaders place.tree)) (n_there : IsSome (f n)) (n_not : n ≢ m) (n_out : In n at.hole.outer → ⊥) (n_below : In n (leaders a ++ leaders b) → ⊥) (h_there : IsSome (f place.holder)) where
+      (inner : (z : ℕ) → In z (lasts a ++ lasts b) → In z (lasts place.tree)) (n_there : IsSome (f n)) (n_not : n ≢ m) (n_out : In n at.hole.outer → ⊥) (n_below : In n (lasts a ++ lasts b) → ⊥) (h_there : IsSome (f place.holder)) where
     abbrev g1 : ℕ → Option HeldCell
     g1 = link_written f1 n EVEN (link_in f1 x EVEN)
 
@@ -174,8 +174,8 @@ module _ (f : ℕ → Option HeldCell) (m : ℕ) (xs : List ℕ) (t : ClassTree)
     held : (z : ℕ) → z ≢ m → (In z at.hole.outer → ⊥) → z ≢ place.holder
     held z d o e = elim at.hole.holds [ inl s ↦ d (e ∙ s.0) | inr i ↦ o (subst (λ y. In y at.hole.outer) (sym e) i.0) ]
 
-    below_held : (z : ℕ) → In z (leaders a ++ leaders b) → z ≢ place.holder
-    below_held z i = held z (λ e. no_m (old.inside m (tree_in m (subst (λ y. In y (leaders place.tree)) e (inner z i))))) (λ o. at.hole.apart z o (inner z i))
+    below_held : (z : ℕ) → In z (lasts a ++ lasts b) → z ≢ place.holder
+    below_held z i = held z (λ e. no_m (old.inside m (tree_in m (subst (λ y. In y (lasts place.tree)) e (inner z i))))) (λ o. at.hole.apart z o (inner z i))
 
     n_held : n ≢ place.holder
     n_held = held n n_not n_out
@@ -183,9 +183,9 @@ module _ (f : ℕ → Option HeldCell) (m : ℕ) (xs : List ℕ) (t : ClassTree)
     there_g : (c : ℕ) → IsSome (f c) → IsSome (g3 c)
     there_g c e = kept g2 g3 place.holder place.link (Some n) c refl (kept g1 g2 n ODD (link_in f1 x ODD) c refl (kept f1 g1 n EVEN (link_in f1 x EVEN) c refl (there c e)))
 
-    below_same : (z : ℕ) → In z (leaders a ++ leaders b) → (link_in g3 z EVEN ≡ link_in f1 z EVEN) × (link_in g3 z ODD ≡ link_in f1 z ODD)
+    below_same : (z : ℕ) → In z (lasts a ++ lasts b) → (link_in g3 z EVEN ≡ link_in f1 z EVEN) × (link_in g3 z ODD ≡ link_in f1 z ODD)
     below_same z i =
-        let d : z ≢ n = (λ e. n_below (subst (λ y. In y (leaders a ++ leaders b)) e i)) in
+        let d : z ≢ n = (λ e. n_below (subst (λ y. In y (lasts a ++ lasts b)) e i)) in
         (taken_by f1 place.holder place.link x n z EVEN d (λ e _. below_held z i e), taken_by f1 place.holder place.link x n z ODD d (λ e _. below_held z i e))
 
     n_even : link_in g3 n EVEN ≡ link_in f1 x EVEN
@@ -200,8 +200,8 @@ module _ (f : ℕ → Option HeldCell) (m : ℕ) (xs : List ℕ) (t : ClassTree)
         (λ c j o away. taken_by f1 place.holder place.link x n c j (λ e. not_n c j o e) away ∙ outside c j o) old.tree (
           link_at g2 place.holder place.link (Some n) (length_kept g1 n ODD (link_in f1 x ODD) place.holder ∙ length_kept f1 n EVEN (link_in f1 x EVEN) place.holder ∙ long place.holder h_there) link_small,
           there_g n n_there,
-          subst (λ o. IsTree g3 o a) (sym n_even) (tree_frame f1 g3 (link_in f1 x EVEN) a (λ z i. below_same z (in_left z (leaders a) (leaders b) i)) stays even),
-          subst (λ o. IsTree g3 o b) (sym n_odd) (tree_frame f1 g3 (link_in f1 x ODD) b (λ z i. below_same z (in_right z (leaders a) (leaders b) i)) stays odd),
+          subst (λ o. IsTree g3 o a) (sym n_even) (tree_frame f1 g3 (link_in f1 x EVEN) a (λ z i. below_same z (in_left z (lasts a) (lasts b) i)) stays even),
+          subst (λ o. IsTree g3 o b) (sym n_odd) (tree_frame f1 g3 (link_in f1 x ODD) b (λ z i. below_same z (in_right z (lasts a) (lasts b) i)) stays odd),
         )
       where
         not_n : (c j : ℕ) → Holds m LEADERS at.hole.outer c j → c ≡ n → ⊥

@@ -11,12 +11,12 @@ use Rattle.lmn_web.specs.declared.kind.CellKind.TheVariants.{Atom}
 use Rattle.lmn_web.specs.Webs.{web_cell, web_of, list_in, cells_in, label_by, web_label, label_class, is_classed, with_class, partners_of}
 use Rattle.lmn_web_cells.specs.Numbers.{ARITY, HIGH, LOW}
 use Rattle.lmn_web.specs.Indexes.{IsClassedWeb}
-use Rattle.lmn_web.specs.Classes.{class_node, key_in, is_key, of_class, IsRing, ClassTree, leaders, top, AreClassed, place_in}
+use Rattle.lmn_web.specs.Classes.{class_node, key_in, is_key, of_class, IsRing, ClassTree, lasts, top, AreClassed, place_in}
 use Rattle.lmn_web_cells.specs.Links.{CLASS_NEXT}
 use Rattle.lmn_web.proofs.ListedLemmas.{list_same, cell_of}
 use Rattle.lmn_web.proofs.Rings.{ring_begins, ring_ends, ring_goes_on}
 use Rattle.lmn_web.proofs.Reclassing.{key_same, key_true}
-use Rattle.lmn_web.proofs.ClassPlaces.{leader_in}
+use Rattle.lmn_web.proofs.ClassPlaces.{last_in}
 use Rattle.lmn_web.proofs.FilterLemmas.{filter_same}
 use Rattle.lmn_store_heap.proofs.Filters.{filter_in, distinct_filter}
 
@@ -40,17 +40,17 @@ class_list f made w m class n = ap (with_class (web_of f) class n) (list_same f 
 -- where a class begins: behind its last one
 pub class_begins : (f : ℕ → Option HeldCell) (m : ℕ) (xs : List ℕ) (t : ClassTree) → AreClassed f m xs t → (In m xs → ⊥) → (p : ℕ × ℕ) (l : ℕ) → top (place_in f p m t).tree ≡ Some l → from (link_in f l CLASS_NEXT) (of_class f p xs) ≡ of_class f p xs
 class_begins f m xs t c no_m p l e =
-    let i = leader_in f m xs t c no_m p l e in let r = c.rings l i.0 in
+    let i = last_in f m xs t c no_m p l e in let r = c.rings l i.0 in
     subst (λ q. from (link_in f l CLASS_NEXT) (of_class f q xs) ≡ of_class f q xs) (key_true (key_in f l) p i.1) (ring_begins (class_node f) l (of_class f (key_in f l) xs) r.1 r.2 r.0)
 
 -- and goes on: behind its last one there is none
-pub class_goes_on : (f : ℕ → Option HeldCell) (m : ℕ) (xs : List ℕ) (t : ClassTree) → AreClassed f m xs t → Distinct xs → (x : ℕ) → In x xs → (In x (leaders t) → after x (of_class f (key_in f x) xs) ≡ []) × ((In x (leaders t) → ⊥) → from (link_in f x CLASS_NEXT) (of_class f (key_in f x) xs) ≡ after x (of_class f (key_in f x) xs))
+pub class_goes_on : (f : ℕ → Option HeldCell) (m : ℕ) (xs : List ℕ) (t : ClassTree) → AreClassed f m xs t → Distinct xs → (x : ℕ) → In x xs → (In x (lasts t) → after x (of_class f (key_in f x) xs) ≡ []) × ((In x (lasts t) → ⊥) → from (link_in f x CLASS_NEXT) (of_class f (key_in f x) xs) ≡ after x (of_class f (key_in f x) xs))
 class_goes_on f m xs t c once x i =
     let q = key_in f x in let once_q = distinct_filter (λ a. is_key (key_in f a) q) xs once in (
       λ j. let r = c.rings x j in ring_ends x (of_class f q xs) r.1 r.2 once_q,
       λ n. let l = c.every x i in let r = c.rings l.0 l.1 in
           let ring : IsRing f l.0 (of_class f q xs) = subst (λ p. IsRing f l.0 (of_class f p xs)) l.2 r in
-          ring_goes_on (class_node f) l.0 x (of_class f q xs) ring.1 ring.2 ring.0 once_q (filter_in (λ a. is_key (key_in f a) q) x xs i (key_same q)) (λ e. n (subst (λ u. In u (leaders t)) (sym e) l.1)),
+          ring_goes_on (class_node f) l.0 x (of_class f q xs) ring.1 ring.2 ring.0 once_q (filter_in (λ a. is_key (key_in f a) q) x xs i (key_same q)) (λ e. n (subst (λ u. In u (lasts t)) (sym e) l.1)),
     )
 
 -- the label of a cell tells its class

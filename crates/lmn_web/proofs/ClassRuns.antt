@@ -8,13 +8,13 @@ use Rattle.lmn_store_heap.proofs.ListLemmas.{in_left, in_right, apart}
 use Rattle.lmn_web_cells.specs.Cells.{HeldCell, links_of, HaveLinks}
 use Rattle.lmn_web_cells.specs.Runs.{link_in}
 use Rattle.lmn_web_cells.proofs.LineLemmas.{link_other}
-use Rattle.lmn_web.specs.Classes.{Touches, ClassTree, Bare, Fork, leaders, top, ClassPlace, IsTree, AreBeside, IsSorted, is_odd, rest_at, class_node, key_in, is_key, of_class, Linked, IsRing, AreClassed, place_in, link_written, taken_over, begun, lengthened, put_between, put_inside, closed, shortened, dropped}
+use Rattle.lmn_web.specs.Classes.{Touches, ClassTree, Bare, Fork, lasts, top, ClassPlace, IsTree, AreBeside, IsSorted, is_odd, rest_at, class_node, key_in, is_key, of_class, Linked, IsRing, AreClassed, place_in, link_written, taken_over, begun, lengthened, put_between, put_inside, closed, shortened, dropped}
 use Rattle.lmn_web_cells.specs.Links.{CLASS_NEXT, CLASS_PREV, EVEN, ODD, LEADERS}
 use Rattle.lmn_web.proofs.Reclassing.{key_same, key_true, nothing_in, reclassed}
 use Rattle.lmn_web.proofs.Rings.{PutsBetween, ClosesUp, linked_frame, linked_prev, put_linked, put_last, close_linked, close_last, ring_last, ring_first, ring_more, ring_less}
 use Rattle.lmn_web.proofs.ClassTrees.{Holds, Hole, forked, side, side_is, sides_differ, not_both, in_forked, top_forked, forked_sorted, sorted_forked, forked_tree, key_differs, tree_frame, sorted_apart, below_differs, beside_not}
 use Rattle.lmn_web.proofs.ClassWrites.{kept, length_kept, touches_none, touches_own, touches_tree, touches_keys, touches_there}
-use Rattle.lmn_web.proofs.ClassPlaces.{link_at, link_far, link_by, bare_of, sorted_top, holds_small, holds_there, holds_more, holds_inner, touches_taken, at, outer_in, tree_in, holds_atoms, link_small, place_far, place_inner, taken_place, taken_inner, leader_in, fill_stay, fill_were, fill_sorted, fill_heads, taken_tree}
+use Rattle.lmn_web.proofs.ClassPlaces.{link_at, link_far, link_by, bare_of, sorted_top, holds_small, holds_there, holds_more, holds_inner, touches_taken, at, outer_in, tree_in, holds_atoms, link_small, place_far, place_inner, taken_place, taken_inner, last_in, fill_stay, fill_were, fill_sorted, fill_ends, taken_tree}
 use Rattle.lmn_store_heap.proofs.Filters.{in_filter, distinct_filter}
 
 -- no link to other classes is one of a class
@@ -34,7 +34,7 @@ module _ (f : ℕ → Option HeldCell) (m c : ℕ) (xs : List ℕ) (t : ClassTre
   zs = of_class f p xs
 
   abbrev ls : List ℕ
-  ls = leaders t
+  ls = lasts t
 
   zs_in : (z : ℕ) → In z zs → In z xs × (is_key (key_in f z) p ≡ true)
   zs_in z i = in_filter (λ a. is_key (key_in f a) p) z xs i
@@ -42,12 +42,12 @@ module _ (f : ℕ → Option HeldCell) (m c : ℕ) (xs : List ℕ) (t : ClassTre
   zs_once : Distinct zs
   zs_once = distinct_filter (λ a. is_key (key_in f a) p) xs distinct
 
-  -- the leader of the class
-  lead_key : (l : ℕ) → In l ls → is_key (key_in f l) p ≡ true → IsRing f l zs
-  lead_key l i e = subst (λ q. IsRing f l (of_class f q xs)) (key_true (key_in f l) p e) (old.rings l i)
+  -- the last one of the class
+  class_ring : (l : ℕ) → In l ls → is_key (key_in f l) p ≡ true → IsRing f l zs
+  class_ring l i e = subst (λ q. IsRing f l (of_class f q xs)) (key_true (key_in f l) p e) (old.rings l i)
 
-  lead_one : (j l : ℕ) → In j ls → In l ls → is_key (key_in f j) p ≡ true → is_key (key_in f l) p ≡ true → j ≡ l
-  lead_one j l a b d e = sorted_apart f 0 t old.sorted j l a b (key_true (key_in f j) p d ∙ sym (key_true (key_in f l) p e))
+  same_class : (j l : ℕ) → In j ls → In l ls → is_key (key_in f j) p ≡ true → is_key (key_in f l) p ≡ true → j ≡ l
+  same_class j l a b d e = sorted_apart f 0 t old.sorted j l a b (key_true (key_in f j) p d ∙ sym (key_true (key_in f l) p e))
 
   -- each other one leads to the membrane
   own_inner : (z : ℕ) → In z zs → (In z ls → ⊥) → link_in f z EVEN ≡ Some m
@@ -133,8 +133,8 @@ module _ (f : ℕ → Option HeldCell) (m c : ℕ) (xs : List ℕ) (t : ClassTre
             let d : b ≢ c = (λ e. elim o [ inl s ↦ not_m (sym e ∙ s.0) | inr i ↦ no_outer (subst (λ z. In z (at f m xs t old no_m p).hole.outer) e i.0) ]) in
             link_other b5 hb kb (Some c) b j (λ s e. n e s) ∙ link_by b4 c ODD None b j d ∙ link_by b2 c EVEN None b j d ∙ link_by b1 c CLASS_PREV (Some c) b j d ∙ link_by f c CLASS_NEXT (Some c) b j d
 
-    none_there : (z : ℕ) → In z (leaders (place_in f p m t).tree) → ⊥
-    none_there z i = subst (λ u. In z (leaders u)) (bare_of (place_in f p m t).tree none) i
+    none_there : (z : ℕ) → In z (lasts (place_in f p m t).tree) → ⊥
+    none_there z i = subst (λ u. In z (lasts u)) (bare_of (place_in f p m t).tree none) i
 
     no_other : (z : ℕ) → is_key (key_in f z) p ≡ false → In z (c ∷ []) → ⊥
     no_other z e i = elim i [ inl s ↦ (let w : true ≡ false = sym (key_same p) ∙ ap (λ u. is_key (key_in f u) p) s ∙ e in absurd cc) | inr j ↦ j ]
@@ -149,8 +149,8 @@ module _ (f : ℕ → Option HeldCell) (m c : ℕ) (xs : List ℕ) (t : ClassTre
       sorted = fill_sorted f m xs t old no_m p (Fork c Bare Bare) (λ z _ i. absurd (none_there z i)) (λ z e i. absurd (no_other z e i)) (λ k i. absurd i, λ k i. absurd i, tt, tt);
       stay = fill_stay f m xs t old no_m p (Fork c Bare Bare) (λ z _ i. absurd (none_there z i)) (λ z e i. absurd (no_other z e i));
       were = fill_were f m xs t old no_m p (Fork c Bare Bare) (λ z _ i. absurd (none_there z i)) (λ z e i. absurd (no_other z e i));
-      heads = fill_heads f m xs t old no_m p (Fork c Bare Bare) (Some c) (λ z e i. elim i [ inl s ↦ ap Some s | inr j ↦ absurd j ]);
-      headed = λ l e. (let s : c ≡ l = cc in ((at f m xs t old no_m p).hole.ins (Fork c Bare Bare) l (inl s), ap (λ u. is_key (key_in f u) p) (sym s) ∙ key_same p));
+      ends = fill_ends f m xs t old no_m p (Fork c Bare Bare) (Some c) (λ z e i. elim i [ inl s ↦ ap Some s | inr j ↦ absurd j ]);
+      ended = λ l e. (let s : c ≡ l = cc in ((at f m xs t old no_m p).hole.ins (Fork c Bare Bare) l (inl s), ap (λ u. is_key (key_in f u) p) (sym s) ∙ key_same p));
       ring = λ l e. (let s : c ≡ l = cc in subst (λ us. IsRing b6 l us) (sym alone) (subst (λ z. IsRing b6 z (c ∷ [])) s ((c_next, c_prev, tt), [], refl)));
       none = λ e. absurd cc;
       kept = λ z e n. (let d : z ≢ c = (λ s. no_other z e (inl (sym s))) in
@@ -212,7 +212,7 @@ module _ (f : ℕ → Option HeldCell) (m c : ℕ) (xs : List ℕ) (t : ClassTre
     i5 = put_inside f m pr d c
 
     ring_i : IsRing f l (us ++ (d ∷ vs))
-    ring_i = subst (λ ws. IsRing f l ws) cut (lead_key l in_l key_l)
+    ring_i = subst (λ ws. IsRing f l ws) cut (class_ring l in_l key_l)
 
     front_i : (link_in f pr CLASS_NEXT ≡ Some d) × (((us ≡ []) × (pr ≡ l)) ⊎ ((ws : List ℕ) × (us ≡ ws ++ pr ∷ [])))
     front_i = linked_prev (class_node f) l us d vs ring_i.0 pr prev
@@ -239,15 +239,15 @@ module _ (f : ℕ → Option HeldCell) (m c : ℕ) (xs : List ℕ) (t : ClassTre
     inside_far : (z j : ℕ) → j ≢ CLASS_NEXT → j ≢ CLASS_PREV → j ≢ EVEN → link_in i5 z j ≡ link_in f z j
     inside_far z j x y e = link_far (put_between f pr d c) c EVEN (Some m) z j e ∙ put_same pr d pr_zs d_zs fresh z j x y
 
-    lead_not_c : (k : ℕ) → In k ls → k ≢ c
-    lead_not_c k i e = fresh (subst (λ u. In u xs) e (old.inside k i))
+    last_not_c : (k : ℕ) → In k ls → k ≢ c
+    last_not_c k i e = fresh (subst (λ u. In u xs) e (old.inside k i))
 
     ring_5 : IsRing i5 l (us ++ (c ∷ d ∷ vs))
     ring_5 =
         let new : In c (us ++ (d ∷ vs)) → ⊥ = λ i. fresh (zs_in c (subst (λ ws. In c ws) (sym cut) i)).0 in
         let w = ring_more us c d vs ring_i.1 l ring_i.2 in (
           linked_frame (class_node (put_between f pr d c)) (class_node i5) l (us ++ (c ∷ d ∷ vs)) (λ z _. inside_node z)
-              (put_linked (class_node f) (class_node (put_between f pr d c)) pr d c (put_node pr d pr_zs d_zs fresh) front_i.0 prev l us vs (λ i. elim i [ inl s ↦ lead_not_c l in_l s | inr j ↦ new j ]) (subst Distinct cut zs_once) ring_i.0),
+              (put_linked (class_node f) (class_node (put_between f pr d c)) pr d c (put_node pr d pr_zs d_zs fresh) front_i.0 prev l us vs (λ i. elim i [ inl s ↦ last_not_c l in_l s | inr j ↦ new j ]) (subst Distinct cut zs_once) ring_i.0),
           w.0,
           w.1,
         )
@@ -259,12 +259,12 @@ module _ (f : ℕ → Option HeldCell) (m c : ℕ) (xs : List ℕ) (t : ClassTre
       lists = lists;
       nodes = λ z _ e. inside_touches.nodes z e;
       tree = subst (λ o. IsTree i5 o t) (sym (inside_far m LEADERS (λ e. absurd (omega (arith, e))) (λ e. absurd (omega (arith, e))) (λ e. absurd (omega (arith, e)))))
-          (tree_frame f i5 (link_in f m LEADERS) t (λ k i. (inside_even k (lead_not_c k i), inside_far k ODD (λ e. absurd (omega (arith, e))) (λ e. absurd (omega (arith, e))) (λ e. absurd (omega (arith, e))))) (touches_there f i5 m (c ∷ xs) p inside_touches) old.tree);
+          (tree_frame f i5 (link_in f m LEADERS) t (λ k i. (inside_even k (last_not_c k i), inside_far k ODD (λ e. absurd (omega (arith, e))) (λ e. absurd (omega (arith, e))) (λ e. absurd (omega (arith, e))))) (touches_there f i5 m (c ∷ xs) p inside_touches) old.tree);
       sorted = old.sorted;
       stay = λ k i _. i;
       were = λ k i _. i;
-      heads = λ k i e. ap Some (lead_one l k in_l i key_l e);
-      headed = λ k e. (let s : l ≡ k = cc in (subst (λ u. In u ls) s in_l, ap (λ u. is_key (key_in f u) p) (sym s) ∙ key_l));
+      ends = λ k i e. ap Some (same_class l k in_l i key_l e);
+      ended = λ k e. (let s : l ≡ k = cc in (subst (λ u. In u ls) s in_l, ap (λ u. is_key (key_in f u) p) (sym s) ∙ key_l));
       ring = λ k e. (let s : l ≡ k = cc in subst (λ ws. IsRing i5 k ws) (sym inside) (subst (λ u. IsRing i5 u (us ++ (c ∷ d ∷ vs))) s ring_5));
       none = λ e. absurd cc;
       kept = λ z e _. inside_even z (not_own z e c (key_same p));
@@ -309,7 +309,7 @@ module _ (f : ℕ → Option HeldCell) (m c : ℕ) (xs : List ℕ) (t : ClassTre
     module _ (xs' us vs : List ℕ) (l : ℕ) (lists : (r : ℕ × ℕ) → is_key r p ≡ false → of_class f r xs' ≡ of_class f r xs) (cut : zs ≡ us ++ (c ∷ nx ∷ vs)) (inside : of_class f p xs' ≡ us ++ (nx ∷ vs))
         (in_l : In l ls) (key_l : is_key (key_in f l) p ≡ true) (prev : link_in f c CLASS_PREV ≡ Some pr) where
       ring_e : IsRing f l (us ++ (c ∷ nx ∷ vs))
-      ring_e = subst (λ ws. IsRing f l ws) cut (lead_key l in_l key_l)
+      ring_e = subst (λ ws. IsRing f l ws) cut (class_ring l in_l key_l)
 
       ring_2 : IsRing e2 l (us ++ (nx ∷ vs))
       ring_2 = let w = ring_less us c nx vs ring_e.1 l ring_e.2 in (
@@ -329,8 +329,8 @@ module _ (f : ℕ → Option HeldCell) (m c : ℕ) (xs : List ℕ) (t : ClassTre
         sorted = old.sorted;
         stay = λ k i _. i;
         were = λ k i _. i;
-        heads = λ k i e. ap Some (lead_one l k in_l i key_l e);
-        headed = λ k e. (let s : l ≡ k = cc in (subst (λ u. In u ls) s in_l, ap (λ u. is_key (key_in f u) p) (sym s) ∙ key_l));
+        ends = λ k i e. ap Some (same_class l k in_l i key_l e);
+        ended = λ k e. (let s : l ≡ k = cc in (subst (λ u. In u ls) s in_l, ap (λ u. is_key (key_in f u) p) (sym s) ∙ key_l));
         ring = λ k e. (let s : l ≡ k = cc in subst (λ ws. IsRing e2 k ws) (sym inside) (subst (λ u. IsRing e2 u (us ++ (nx ∷ vs))) s ring_2));
         none = λ e. absurd cc;
         kept = λ z _ _. closed_even z;
@@ -340,11 +340,11 @@ module _ (f : ℕ → Option HeldCell) (m c : ℕ) (xs : List ℕ) (t : ClassTre
   -- The last of a class changes
 
   module _ (x : ℕ) (pa pb : ClassTree) (is_x : (place_in f p m t).tree ≡ Fork x pa pb) where
-    lead : top (place_in f p m t).tree ≡ Some x
-    lead = ap top is_x
+    hung : top (place_in f p m t).tree ≡ Some x
+    hung = ap top is_x
 
     x_ls : In x ls × (is_key (key_in f x) p ≡ true)
-    x_ls = leader_in f m xs t old no_m p x lead
+    x_ls = last_in f m xs t old no_m p x hung
 
     -- what hangs where it stands
     part_x : IsTree f (link_in f (place_in f p m t).holder (place_in f p m t).link) (Fork x pa pb)
@@ -354,26 +354,26 @@ module _ (f : ℕ → Option HeldCell) (m c : ℕ) (xs : List ℕ) (t : ClassTre
     sorted_x = subst (λ u. IsSorted f (place_in f p m t).depth u) is_x (at f m xs t old no_m p).hole.sorted
 
     -- and below it
-    in_x : (z : ℕ) → In z (x ∷ (leaders pa ++ leaders pb)) → In z (leaders (place_in f p m t).tree)
-    in_x z i = subst (λ u. In z (leaders u)) (sym is_x) i
+    in_x : (z : ℕ) → In z (x ∷ (lasts pa ++ lasts pb)) → In z (lasts (place_in f p m t).tree)
+    in_x z i = subst (λ u. In z (lasts u)) (sym is_x) i
 
-    of_x : (z : ℕ) → In z (leaders (place_in f p m t).tree) → In z (x ∷ (leaders pa ++ leaders pb))
-    of_x z i = subst (λ u. In z (leaders u)) is_x i
+    of_x : (z : ℕ) → In z (lasts (place_in f p m t).tree) → In z (x ∷ (lasts pa ++ lasts pb))
+    of_x z i = subst (λ u. In z (lasts u)) is_x i
 
     -- has other classes
-    below_x : (z : ℕ) → In z (leaders pa ++ leaders pb) → is_key (key_in f z) p ≡ false
+    below_x : (z : ℕ) → In z (lasts pa ++ lasts pb) → is_key (key_in f z) p ≡ false
     below_x z i = ap (is_key (key_in f z)) (sym (key_true (key_in f x) p x_ls.1)) ∙ below_differs f x (place_in f p m t).depth pa pb sorted_x z i
 
     there_x : IsSome (f (place_in f p m t).holder)
     there_x = holds_there f m xs (place_in f p m t).holder (place_in f p m t).link (holds_atoms f m xs t old no_m p) there_m alive
 
     -- a last one of another class is another one
-    other_lead : (z : ℕ) → is_key (key_in f z) p ≡ false → x ≡ z → ⊥
-    other_lead z e s = let w : true ≡ false = sym x_ls.1 ∙ ap (λ u. is_key (key_in f u) p) s ∙ e in absurd cc
+    other_last : (z : ℕ) → is_key (key_in f z) p ≡ false → x ≡ z → ⊥
+    other_last z e s = let w : true ≡ false = sym x_ls.1 ∙ ap (λ u. is_key (key_in f u) p) s ∙ e in absurd cc
 
     -- one of the same class is this one
-    same_lead : (z : ℕ) → In z ls → is_key (key_in f z) p ≡ true → x ≡ z
-    same_lead z i e = lead_one x z x_ls.0 i x_ls.1 e
+    same_last : (z : ℕ) → In z ls → is_key (key_in f z) p ≡ true → x ≡ z
+    same_last z i e = same_class x z x_ls.0 i x_ls.1 e
 
     -- Another one of the class is the last
 
@@ -382,33 +382,33 @@ module _ (f : ℕ → Option HeldCell) (m c : ℕ) (xs : List ℕ) (t : ClassTre
       abbrev then_x : ClassTree
       then_x = (at f m xs t old no_m p).hole.fill (Fork n pa pb)
 
-      sub_n : (z : ℕ) → is_key (key_in f z) p ≡ false → In z (leaders (place_in f p m t).tree) → In z (n ∷ (leaders pa ++ leaders pb))
-      sub_n z e i = elim (of_x z i) [ inl s ↦ absurd (other_lead z e s) | inr j ↦ inr j ]
+      sub_n : (z : ℕ) → is_key (key_in f z) p ≡ false → In z (lasts (place_in f p m t).tree) → In z (n ∷ (lasts pa ++ lasts pb))
+      sub_n z e i = elim (of_x z i) [ inl s ↦ absurd (other_last z e s) | inr j ↦ inr j ]
 
-      sup_n : (z : ℕ) → is_key (key_in f z) p ≡ false → In z (n ∷ (leaders pa ++ leaders pb)) → In z (leaders (place_in f p m t).tree)
+      sup_n : (z : ℕ) → is_key (key_in f z) p ≡ false → In z (n ∷ (lasts pa ++ lasts pb)) → In z (lasts (place_in f p m t).tree)
       sup_n z e i = elim i [ inl s ↦ (let w : true ≡ false = sym key_n ∙ ap (λ u. is_key (key_in f u) p) s ∙ e in absurd cc) | inr j ↦ in_x z (inr j) ]
 
-      pub lead_tree : IsTree (taken_over g (place_in f p m t).holder (place_in f p m t).link x n) (link_in (taken_over g (place_in f p m t).holder (place_in f p m t).link x n) m LEADERS) then_x
-      lead_tree = taken_tree f m xs t old no_m p g x n pa pb there_g long_g
+      pub new_tree : IsTree (taken_over g (place_in f p m t).holder (place_in f p m t).link x n) (link_in (taken_over g (place_in f p m t).holder (place_in f p m t).link x n) m LEADERS) then_x
+      new_tree = taken_tree f m xs t old no_m p g x n pa pb there_g long_g
           (λ b j o. agree b j (elim o [ inl s ↦ inr (inr s.1) | inr i ↦ elim i.1 [ inl e ↦ inl e | inr e ↦ inr (inl e) ] ]))
           (subst (λ o. IsTree g o pa) (sym (agree x EVEN (inl refl))) (tree_frame f g (link_in f x EVEN) pa (λ z i. (agree z EVEN (inl refl), agree z ODD (inr (inl refl)))) there_g part_x.2))
           (subst (λ o. IsTree g o pb) (sym (agree x ODD (inr (inl refl)))) (tree_frame f g (link_in f x ODD) pb (λ z i. (agree z EVEN (inl refl), agree z ODD (inr (inl refl)))) there_g part_x.3))
           (λ z i. in_x z (inr i)) n_there n_not (λ i. new (outer_in f m xs t old no_m p n i)) (λ i. new (tree_in f m xs t old no_m p n (in_x n (inr i)))) there_x
 
-      pub lead_sorted : IsSorted f 0 then_x
-      lead_sorted = fill_sorted f m xs t old no_m p (Fork n pa pb) sub_n sup_n (sorted_top f (place_in f p m t).depth x n pa pb (key_true (key_in f x) p x_ls.1 ∙ sym (key_true (key_in f n) p key_n)) sorted_x)
+      pub new_sorted : IsSorted f 0 then_x
+      new_sorted = fill_sorted f m xs t old no_m p (Fork n pa pb) sub_n sup_n (sorted_top f (place_in f p m t).depth x n pa pb (key_true (key_in f x) p x_ls.1 ∙ sym (key_true (key_in f n) p key_n)) sorted_x)
 
-      pub lead_stay : (l : ℕ) → In l ls → is_key (key_in f l) p ≡ false → In l (leaders then_x)
-      lead_stay = fill_stay f m xs t old no_m p (Fork n pa pb) sub_n sup_n
+      pub new_stay : (l : ℕ) → In l ls → is_key (key_in f l) p ≡ false → In l (lasts then_x)
+      new_stay = fill_stay f m xs t old no_m p (Fork n pa pb) sub_n sup_n
 
-      pub lead_were : (l : ℕ) → In l (leaders then_x) → is_key (key_in f l) p ≡ false → In l ls
-      lead_were = fill_were f m xs t old no_m p (Fork n pa pb) sub_n sup_n
+      pub new_were : (l : ℕ) → In l (lasts then_x) → is_key (key_in f l) p ≡ false → In l ls
+      new_were = fill_were f m xs t old no_m p (Fork n pa pb) sub_n sup_n
 
-      pub lead_heads : (l : ℕ) → In l (leaders then_x) → is_key (key_in f l) p ≡ true → Some n ≡ Some l
-      lead_heads = fill_heads f m xs t old no_m p (Fork n pa pb) (Some n) (λ z e i. elim i [ inl s ↦ ap Some s | inr j ↦ absurd (let w : true ≡ false = sym e ∙ below_x z j in cc) ])
+      pub new_ends : (l : ℕ) → In l (lasts then_x) → is_key (key_in f l) p ≡ true → Some n ≡ Some l
+      new_ends = fill_ends f m xs t old no_m p (Fork n pa pb) (Some n) (λ z e i. elim i [ inl s ↦ ap Some s | inr j ↦ absurd (let w : true ≡ false = sym e ∙ below_x z j in cc) ])
 
-      pub lead_headed : (l : ℕ) → Some n ≡ Some l → In l (leaders then_x) × (is_key (key_in f l) p ≡ true)
-      lead_headed l e = let s : n ≡ l = cc in ((at f m xs t old no_m p).hole.ins (Fork n pa pb) l (inl s), ap (λ u. is_key (key_in f u) p) (sym s) ∙ key_n)
+      pub new_ended : (l : ℕ) → Some n ≡ Some l → In l (lasts then_x) × (is_key (key_in f l) p ≡ true)
+      new_ended l e = let s : n ≡ l = cc in ((at f m xs t old no_m p).hole.ins (Fork n pa pb) l (inl s), ap (λ u. is_key (key_in f u) p) (sym s) ∙ key_n)
 
   -- An atom comes behind the last of its class
 
@@ -427,7 +427,7 @@ module _ (f : ℕ → Option HeldCell) (m c : ℕ) (xs : List ℕ) (t : ClassTre
     l_ls = x_ls l pa pb is_x
 
     ring_l : IsRing f l zs
-    ring_l = lead_key l l_ls.0 l_ls.1
+    ring_l = class_ring l l_ls.0 l_ls.1
 
     l_zs : In l zs
     l_zs = ring_last l zs ring_l.1 ring_l.2
@@ -478,15 +478,15 @@ module _ (f : ℕ → Option HeldCell) (m c : ℕ) (xs : List ℕ) (t : ClassTre
     then_l = (at f m xs t old no_m p).hole.fill (Fork c pa pb)
 
     -- the one before isn't in the tree any more
-    not_l : (z : ℕ) → In z (leaders then_l) → z ≢ l
+    not_l : (z : ℕ) → In z (lasts then_l) → z ≢ l
     not_l z i e =
-        let w : Some c ≡ Some l = lead_heads l pa pb is_x c (key_same p) no_c there_c not_m h4 there_4 long_4 agree_4 l (subst (λ u. In u (leaders then_l)) e i) l_ls.1 in
+        let w : Some c ≡ Some l = new_ends l pa pb is_x c (key_same p) no_c there_c not_m h4 there_4 long_4 agree_4 l (subst (λ u. In u (lasts then_l)) e i) l_ls.1 in
         let s : c ≡ l = cc in no_c (subst (λ u. In u ls) (sym s) l_ls.0)
 
     tree_8 : IsTree h8 (link_in h8 m LEADERS) then_l
     tree_8 = subst (λ o. IsTree h8 o then_l) (sym (link_far h7 l EVEN (Some m) m LEADERS (λ e. absurd (omega (arith, e)))))
         (tree_frame h7 h8 (link_in h7 m LEADERS) then_l (λ z i. (link_by h7 l EVEN (Some m) z EVEN (not_l z i), link_by h7 l EVEN (Some m) z ODD (not_l z i))) (λ b s. kept h7 h8 l EVEN (Some m) b refl s)
-        (lead_tree l pa pb is_x c (key_same p) no_c there_c not_m h4 there_4 long_4 agree_4))
+        (new_tree l pa pb is_x c (key_same p) no_c there_c not_m h4 there_4 long_4 agree_4))
 
     -- what is no last one, now or before, leads where it led
     inner_8 : (z : ℕ) → z ≢ c → (In z ls → ⊥) → link_in h8 z EVEN ≡ link_in f z EVEN
@@ -499,20 +499,20 @@ module _ (f : ℕ → Option HeldCell) (m c : ℕ) (xs : List ℕ) (t : ClassTre
       lists = lists;
       nodes = λ z _ e. longer_touches.nodes z e;
       tree = tree_8;
-      sorted = lead_sorted l pa pb is_x c (key_same p) no_c there_c not_m h4 there_4 long_4 agree_4;
-      stay = lead_stay l pa pb is_x c (key_same p) no_c there_c not_m h4 there_4 long_4 agree_4;
-      were = lead_were l pa pb is_x c (key_same p) no_c there_c not_m h4 there_4 long_4 agree_4;
-      heads = lead_heads l pa pb is_x c (key_same p) no_c there_c not_m h4 there_4 long_4 agree_4;
-      headed = lead_headed l pa pb is_x c (key_same p) no_c there_c not_m h4 there_4 long_4 agree_4;
+      sorted = new_sorted l pa pb is_x c (key_same p) no_c there_c not_m h4 there_4 long_4 agree_4;
+      stay = new_stay l pa pb is_x c (key_same p) no_c there_c not_m h4 there_4 long_4 agree_4;
+      were = new_were l pa pb is_x c (key_same p) no_c there_c not_m h4 there_4 long_4 agree_4;
+      ends = new_ends l pa pb is_x c (key_same p) no_c there_c not_m h4 there_4 long_4 agree_4;
+      ended = new_ended l pa pb is_x c (key_same p) no_c there_c not_m h4 there_4 long_4 agree_4;
       ring = λ k e. (let s : c ≡ k = cc in subst (λ ws. IsRing h8 k ws) (sym longer) (subst (λ u. IsRing h8 u (zs ++ c ∷ [])) s ring_8));
       none = λ e. absurd cc;
       kept = λ z e o. inner_8 z (not_own z e c (key_same p)) o;
       inner = λ z i n. elim (in_snoc z c zs (subst (λ ws. In z ws) longer i)) [
         | inl j ↦ elim (cases_eq z l) [
           | inl e ↦ ap (λ u. link_in h8 u EVEN) e ∙ link_at h7 l EVEN (Some m) (touches_7.lengths l ∙ have l (alive l (old.inside l l_ls.0))) (omega arith)
-          | inr o ↦ (let away : In z ls → ⊥ = (λ k. o (lead_one z l k l_ls.0 (zs_in z j).1 l_ls.1)) in inner_8 z (λ e. fresh (subst (λ u. In u xs) e (zs_in z j).0)) away ∙ own_inner z j away)
+          | inr o ↦ (let away : In z ls → ⊥ = (λ k. o (same_class z l k l_ls.0 (zs_in z j).1 l_ls.1)) in inner_8 z (λ e. fresh (subst (λ u. In u xs) e (zs_in z j).0)) away ∙ own_inner z j away)
         ]
-        | inr e ↦ absurd (n (lead_headed l pa pb is_x c (key_same p) no_c there_c not_m h4 there_4 long_4 agree_4 z (ap Some (sym e))).0)
+        | inr e ↦ absurd (n (new_ended l pa pb is_x c (key_same p) no_c there_c not_m h4 there_4 long_4 agree_4 z (ap Some (sym e))).0)
       ];
     }
 
@@ -527,7 +527,7 @@ module _ (f : ℕ → Option HeldCell) (m c : ℕ) (xs : List ℕ) (t : ClassTre
     s5 = shortened f (place_in f p m t).holder (place_in f p m t).link c pr nx
 
     ring_c : IsRing f c (nx ∷ (us ++ c ∷ []))
-    ring_c = subst (λ ws. IsRing f c ws) cut (lead_key c (x_ls c pa pb is_x).0 (x_ls c pa pb is_x).1)
+    ring_c = subst (λ ws. IsRing f c ws) cut (class_ring c (x_ls c pa pb is_x).0 (x_ls c pa pb is_x).1)
 
     once_c : Distinct (nx ∷ (us ++ c ∷ []))
     once_c = subst Distinct cut zs_once
@@ -556,7 +556,7 @@ module _ (f : ℕ → Option HeldCell) (m c : ℕ) (xs : List ℕ) (t : ClassTre
 
     -- none of them is in the tree
     no_rest : (z : ℕ) → In z (nx ∷ us) → In z ls → ⊥
-    no_rest z i k = rest_not_c z i (sym (same_lead c pa pb is_x z k (zs_in z (rest_in z i)).1))
+    no_rest z i k = rest_not_c z i (sym (same_last c pa pb is_x z k (zs_in z (rest_in z i)).1))
 
     pr_not_m : pr ≢ m
     pr_not_m e = no_m (subst (λ u. In u xs) e (zs_in pr pr_rest).0)
@@ -602,17 +602,17 @@ module _ (f : ℕ → Option HeldCell) (m c : ℕ) (xs : List ℕ) (t : ClassTre
       keys = touches_keys f s5 m xs p shorter_touches;
       lists = lists;
       nodes = λ z _ e. shorter_touches.nodes z e;
-      tree = lead_tree c pa pb is_x pr key_pr (no_rest pr pr_us) pr_there pr_not_m s2 there_2 long_2 agree_2;
-      sorted = lead_sorted c pa pb is_x pr key_pr (no_rest pr pr_us) pr_there pr_not_m s2 there_2 long_2 agree_2;
-      stay = lead_stay c pa pb is_x pr key_pr (no_rest pr pr_us) pr_there pr_not_m s2 there_2 long_2 agree_2;
-      were = lead_were c pa pb is_x pr key_pr (no_rest pr pr_us) pr_there pr_not_m s2 there_2 long_2 agree_2;
-      heads = lead_heads c pa pb is_x pr key_pr (no_rest pr pr_us) pr_there pr_not_m s2 there_2 long_2 agree_2;
-      headed = lead_headed c pa pb is_x pr key_pr (no_rest pr pr_us) pr_there pr_not_m s2 there_2 long_2 agree_2;
+      tree = new_tree c pa pb is_x pr key_pr (no_rest pr pr_us) pr_there pr_not_m s2 there_2 long_2 agree_2;
+      sorted = new_sorted c pa pb is_x pr key_pr (no_rest pr pr_us) pr_there pr_not_m s2 there_2 long_2 agree_2;
+      stay = new_stay c pa pb is_x pr key_pr (no_rest pr pr_us) pr_there pr_not_m s2 there_2 long_2 agree_2;
+      were = new_were c pa pb is_x pr key_pr (no_rest pr pr_us) pr_there pr_not_m s2 there_2 long_2 agree_2;
+      ends = new_ends c pa pb is_x pr key_pr (no_rest pr pr_us) pr_there pr_not_m s2 there_2 long_2 agree_2;
+      ended = new_ended c pa pb is_x pr key_pr (no_rest pr pr_us) pr_there pr_not_m s2 there_2 long_2 agree_2;
       ring = λ k e. (let s : pr ≡ k = cc in subst (λ ws. IsRing s5 k ws) (sym inside) (subst (λ u. IsRing s5 u (nx ∷ us)) s ring_s));
       none = λ e. absurd cc;
       kept = λ z e o. inner_s z (not_own z e pr key_pr) o;
       inner = λ z i n. (let j : In z (nx ∷ us) = subst (λ ws. In z ws) inside i in
-          inner_s z (λ e. n (lead_headed c pa pb is_x pr key_pr (no_rest pr pr_us) pr_there pr_not_m s2 there_2 long_2 agree_2 z (ap Some (sym e))).0) (no_rest z j) ∙ own_inner z (rest_in z j) (no_rest z j));
+          inner_s z (λ e. n (new_ended c pa pb is_x pr key_pr (no_rest pr pr_us) pr_there pr_not_m s2 there_2 long_2 agree_2 z (ap Some (sym e))).0) (no_rest z j) ∙ own_inner z (rest_in z j) (no_rest z j));
     }
 
   -- The only one of a class leaves
@@ -625,13 +625,13 @@ module _ (f : ℕ → Option HeldCell) (m c : ℕ) (xs : List ℕ) (t : ClassTre
     kk = (place_in f p m t).link
 
     -- another tree there, with the same cells but the first of the class
-    module _ (g : ℕ → Option HeldCell) (touched : Touches f g m xs p) (u : ClassTree) (sub : (z : ℕ) → In z (leaders pa ++ leaders pb) → In z (leaders u)) (sup : (z : ℕ) → In z (leaders u) → In z (leaders pa ++ leaders pb))
+    module _ (g : ℕ → Option HeldCell) (touched : Touches f g m xs p) (u : ClassTree) (sub : (z : ℕ) → In z (lasts pa ++ lasts pb) → In z (lasts u)) (sup : (z : ℕ) → In z (lasts u) → In z (lasts pa ++ lasts pb))
         (tree : IsTree g (link_in g m LEADERS) ((at f m xs t old no_m p).hole.fill u)) (sorted : IsSorted f (place_in f p m t).depth u)
         (even : (z : ℕ) → (In z ls → ⊥) → link_in g z EVEN ≡ link_in f z EVEN) where
-      sub_k : (z : ℕ) → is_key (key_in f z) p ≡ false → In z (leaders (place_in f p m t).tree) → In z (leaders u)
-      sub_k z e i = elim (of_x c pa pb is_x z i) [ inl s ↦ absurd (other_lead c pa pb is_x z e s) | inr j ↦ sub z j ]
+      sub_k : (z : ℕ) → is_key (key_in f z) p ≡ false → In z (lasts (place_in f p m t).tree) → In z (lasts u)
+      sub_k z e i = elim (of_x c pa pb is_x z i) [ inl s ↦ absurd (other_last c pa pb is_x z e s) | inr j ↦ sub z j ]
 
-      sup_k : (z : ℕ) → is_key (key_in f z) p ≡ false → In z (leaders u) → In z (leaders (place_in f p m t).tree)
+      sup_k : (z : ℕ) → is_key (key_in f z) p ≡ false → In z (lasts u) → In z (lasts (place_in f p m t).tree)
       sup_k z e i = in_x c pa pb is_x z (inr (sup z i))
 
       gone_classed : AreClassed g m xs' ((at f m xs t old no_m p).hole.fill u)
@@ -643,8 +643,8 @@ module _ (f : ℕ → Option HeldCell) (m c : ℕ) (xs : List ℕ) (t : ClassTre
         sorted = fill_sorted f m xs t old no_m p u sub_k sup_k sorted;
         stay = fill_stay f m xs t old no_m p u sub_k sup_k;
         were = fill_were f m xs t old no_m p u sub_k sup_k;
-        heads = fill_heads f m xs t old no_m p u None (λ z e i. absurd (let w : true ≡ false = sym e ∙ below_x c pa pb is_x z (sup z i) in cc));
-        headed = λ l e. absurd cc;
+        ends = fill_ends f m xs t old no_m p u None (λ z e i. absurd (let w : true ≡ false = sym e ∙ below_x c pa pb is_x z (sup z i) in cc));
+        ended = λ l e. absurd cc;
         ring = λ l e. absurd cc;
         none = λ e. inside;
         kept = λ z _ n. even z n;
@@ -652,18 +652,18 @@ module _ (f : ℕ → Option HeldCell) (m c : ℕ) (xs : List ℕ) (t : ClassTre
       }
 
     -- the cells of the tree are those of a list of atoms
-    below_ls : (z : ℕ) → In z (leaders pa ++ leaders pb) → In z ls
+    below_ls : (z : ℕ) → In z (lasts pa ++ lasts pb) → In z ls
     below_ls z i = tree_in f m xs t old no_m p z (in_x c pa pb is_x z (inr i))
 
-    below_xs : (z : ℕ) → In z (leaders pa ++ leaders pb) → In z xs
+    below_xs : (z : ℕ) → In z (lasts pa ++ lasts pb) → In z xs
     below_xs z i = old.inside z (below_ls z i)
 
-    below_outer : (z : ℕ) → In z (leaders pa ++ leaders pb) → In z (at f m xs t old no_m p).hole.outer → ⊥
+    below_outer : (z : ℕ) → In z (lasts pa ++ lasts pb) → In z (at f m xs t old no_m p).hole.outer → ⊥
     below_outer z i o = (at f m xs t old no_m p).hole.apart z o (in_x c pa pb is_x z (inr i))
 
     -- None is below it
 
-    module _ (bare : leaders pa ++ leaders pb ≡ []) where
+    module _ (bare : lasts pa ++ lasts pb ≡ []) where
       abbrev k1 : ℕ → Option HeldCell
       k1 = link_written f hk kk None
 
@@ -681,8 +681,8 @@ module _ (f : ℕ → Option HeldCell) (m c : ℕ) (xs : List ℕ) (t : ClassTre
 
     -- One that is below it takes its place
 
-    module _ (lh lk l : ℕ) (a b : ClassTree) (below : (z : ℕ) → In z (leaders a ++ leaders b) → In z (leaders pa ++ leaders pb)) (all : (z : ℕ) → In z (leaders pa ++ leaders pb) → In z (l ∷ (leaders a ++ leaders b)))
-        (leaf : In l (leaders pa ++ leaders pb)) (gone : In l (leaders a ++ leaders b) → ⊥) (holds : Holds m LEADERS (c ∷ (leaders pa ++ leaders pb)) lh lk) (not_top : lh ≢ m)
+    module _ (lh lk l : ℕ) (a b : ClassTree) (below : (z : ℕ) → In z (lasts a ++ lasts b) → In z (lasts pa ++ lasts pb)) (all : (z : ℕ) → In z (lasts pa ++ lasts pb) → In z (l ∷ (lasts a ++ lasts b)))
+        (leaf : In l (lasts pa ++ lasts pb)) (gone : In l (lasts a ++ lasts b) → ⊥) (holds : Holds m LEADERS (c ∷ (lasts pa ++ lasts pb)) lh lk) (not_top : lh ≢ m)
         (even : IsTree (link_written f lh lk None) (link_in (link_written f lh lk None) c EVEN) a) (odd : IsTree (link_written f lh lk None) (link_in (link_written f lh lk None) c ODD) b) (sorted : IsSorted f (place_in f p m t).depth (Fork l a b)) where
       abbrev k2 : ℕ → Option HeldCell
       k2 = link_written f lh lk None
@@ -694,7 +694,7 @@ module _ (f : ℕ → Option HeldCell) (m c : ℕ) (xs : List ℕ) (t : ClassTre
       c_xs = old.inside c (x_ls c pa pb is_x).0
 
       holds_xs : Holds m LEADERS xs lh lk
-      holds_xs = holds_more m (c ∷ (leaders pa ++ leaders pb)) xs lh lk (λ z i. elim i [ inl s ↦ subst (λ y. In y xs) s c_xs | inr j ↦ below_xs z j ]) holds
+      holds_xs = holds_more m (c ∷ (lasts pa ++ lasts pb)) xs lh lk (λ z i. elim i [ inl s ↦ subst (λ y. In y xs) s c_xs | inr j ↦ below_xs z j ]) holds
 
       touches_k2 : Touches f k2 m xs p
       touches_k2 = touches_tree f f m xs p (touches_none f m xs p) lh lk None holds_xs
@@ -710,16 +710,16 @@ module _ (f : ℕ → Option HeldCell) (m c : ℕ) (xs : List ℕ) (t : ClassTre
           | inl s ↦ not_top s.0
           | inr q ↦ elim q.0 [
             | inl s ↦ (at f m xs t old no_m p).hole.apart z i.0 (in_x c pa pb is_x z (inl (s ∙ sym e)))
-            | inr y ↦ below_outer z (subst (λ w. In w (leaders pa ++ leaders pb)) (sym e) y) i.0
+            | inr y ↦ below_outer z (subst (λ w. In w (lasts pa ++ lasts pb)) (sym e) y) i.0
           ]
         ]
       ])
 
       pub leaf_classed : AreClassed k3 m xs' ((at f m xs t old no_m p).hole.fill (Fork l a b))
-      leaf_classed = gone_classed k3 leaf_touches (Fork l a b) all (λ z i. elim i [ inl s ↦ subst (λ y. In y (leaders pa ++ leaders pb)) s leaf | inr j ↦ below z j ])
+      leaf_classed = gone_classed k3 leaf_touches (Fork l a b) all (λ z i. elim i [ inl s ↦ subst (λ y. In y (lasts pa ++ lasts pb)) s leaf | inr j ↦ below z j ])
           (taken_tree f m xs t old no_m p k2 c l a b (λ z s. touches_there f k2 m xs p touches_k2 z s) (λ z s. touches_k2.lengths z ∙ have z s) outside even odd (λ z i. in_x c pa pb is_x z (inr (below z i))) (alive l (below_xs l leaf))
           (λ e. no_m (subst (λ y. In y xs) e (below_xs l leaf))) (below_outer l leaf) gone (there_x c pa pb is_x)) sorted
-          (λ z n. taken_inner f m xs t old no_m p k2 c l z (λ e. n (subst (λ u. In u ls) (sym e) (below_ls l leaf))) n ∙ holds_inner m (c ∷ (leaders pa ++ leaders pb)) lh lk holds f None z
+          (λ z n. taken_inner f m xs t old no_m p k2 c l z (λ e. n (subst (λ u. In u ls) (sym e) (below_ls l leaf))) n ∙ holds_inner m (c ∷ (lasts pa ++ lasts pb)) lh lk holds f None z
           (λ i. n (elim i [ inl s ↦ subst (λ u. In u ls) s (x_ls c pa pb is_x).0 | inr j ↦ below_ls z j ])))
 
   -- That one hangs on one of its two sides, near
@@ -742,67 +742,67 @@ module _ (f : ℕ → Option HeldCell) (m c : ℕ) (xs : List ℕ) (t : ClassTre
     abbrev cut_n : ℕ → Option HeldCell
     cut_n = link_written f w.holder w.link None
 
-    sides : AreBeside f c dn odd (leaders near) × AreBeside f c dn (not odd) (leaders far) × IsSorted f (suc dn) near × IsSorted f (suc dn) far
+    sides : AreBeside f c dn odd (lasts near) × AreBeside f c dn (not odd) (lasts far) × IsSorted f (suc dn) near × IsSorted f (suc dn) far
     sides = forked_sorted f dn odd c near far (subst (λ u. IsSorted f dn u) is_x (at f m xs t old no_m p).hole.sorted)
 
     trees : (link_in f hn kn ≡ Some c) × IsSome (f c) × IsTree f (link_in f c (side odd)) near × IsTree f (link_in f c (side (not odd))) far
     trees = forked_tree f (link_in f hn kn) odd c near far (subst (λ u. IsTree f (link_in f hn kn) u) is_x ((at f m xs t old no_m p).hole.part old.tree))
 
-    leaf_n : In l (leaders w.tree)
-    leaf_n = subst (λ u. In l (leaders u)) (sym alone) (inl refl)
+    leaf_n : In l (lasts w.tree)
+    leaf_n = subst (λ u. In l (lasts u)) (sym alone) (inl refl)
 
-    leaf_near : In l (leaders near)
-    leaf_near = subst (λ u. In l (leaders u)) hole.is (hole.ins w.tree l leaf_n)
+    leaf_near : In l (lasts near)
+    leaf_near = subst (λ u. In l (lasts u)) hole.is (hole.ins w.tree l leaf_n)
 
-    out_near : (z : ℕ) → In z hole.outer → In z (leaders near)
-    out_near z i = subst (λ u. In z (leaders u)) hole.is (hole.outs w.tree z i)
+    out_near : (z : ℕ) → In z hole.outer → In z (lasts near)
+    out_near z i = subst (λ u. In z (lasts u)) hole.is (hole.outs w.tree z i)
 
-    below_n : (z : ℕ) → In z (leaders pruned) → In z (leaders near)
+    below_n : (z : ℕ) → In z (lasts pruned) → In z (lasts near)
     below_n z i = elim (hole.parts Bare z i) [ inl o ↦ out_near z o | inr j ↦ absurd j ]
 
-    all_n : (z : ℕ) → In z (leaders near) → (l ≡ z) ⊎ In z (leaders pruned)
-    all_n z i = elim (hole.parts w.tree z (subst (λ u. In z (leaders u)) (sym hole.is) i)) [ inl o ↦ inr (hole.outs Bare z o) | inr j ↦ elim (subst (λ u. In z (leaders u)) alone j) [ inl s ↦ inl s | inr y ↦ absurd y ] ]
+    all_n : (z : ℕ) → In z (lasts near) → (l ≡ z) ⊎ In z (lasts pruned)
+    all_n z i = elim (hole.parts w.tree z (subst (λ u. In z (lasts u)) (sym hole.is) i)) [ inl o ↦ inr (hole.outs Bare z o) | inr j ↦ elim (subst (λ u. In z (lasts u)) alone j) [ inl s ↦ inl s | inr y ↦ absurd y ] ]
 
-    gone_n : In l (leaders pruned) → ⊥
+    gone_n : In l (lasts pruned) → ⊥
     gone_n i = elim (hole.parts Bare l i) [ inl o ↦ hole.apart l o leaf_n | inr j ↦ j ]
 
-    both : (z : ℕ) → In z (leaders near) → In z (leaders far) → ⊥
+    both : (z : ℕ) → In z (lasts near) → In z (lasts far) → ⊥
     both z i j = not_both odd (sym (sides.0 z i).1 ∙ (sides.1 z j).1)
 
     -- where it hangs
-    holder_n : (c ≡ w.holder) ⊎ In w.holder (leaders near)
+    holder_n : (c ≡ w.holder) ⊎ In w.holder (lasts near)
     holder_n = elim hole.holds [ inl e ↦ inl (sym e.0) | inr o ↦ inr (out_near w.holder o.0) ]
 
-    near_xs : (z : ℕ) → In z (leaders near) → In z xs
-    near_xs z i = old.inside z (tree_in f m xs t old no_m p z (subst (λ u. In z (leaders u)) (sym is_x) (in_forked odd c near far z (inr (inl i)))))
+    near_xs : (z : ℕ) → In z (lasts near) → In z xs
+    near_xs z i = old.inside z (tree_in f m xs t old no_m p z (subst (λ u. In z (lasts u)) (sym is_x) (in_forked odd c near far z (inr (inl i)))))
 
     holder_xs : In w.holder xs
-    holder_xs = elim holder_n [ inl s ↦ subst (λ y. In y xs) s (old.inside c (leader_in f m xs t old no_m p c (ap top is_x ∙ top_forked odd c near far)).0) | inr i ↦ near_xs w.holder i ]
+    holder_xs = elim holder_n [ inl s ↦ subst (λ y. In y xs) s (old.inside c (last_in f m xs t old no_m p c (ap top is_x ∙ top_forked odd c near far)).0) | inr i ↦ near_xs w.holder i ]
 
-    holds_n : Holds m LEADERS (leaders (forked odd c near far)) w.holder w.link
+    holds_n : Holds m LEADERS (lasts (forked odd c near far)) w.holder w.link
     holds_n = elim hole.holds [ inl e ↦ inr (in_forked odd c near far w.holder (inl (sym e.0)), side_is odd w.link e.1) | inr o ↦ inr (in_forked odd c near far w.holder (inr (inl (out_near w.holder o.0))), o.1) ]
 
     stays_n : (z : ℕ) → IsSome (f z) → IsSome (cut_n z)
     stays_n z s = kept f cut_n w.holder w.link None z refl s
 
-    far_away : (z : ℕ) → In z (leaders far) → z ≢ w.holder
-    far_away z i e = elim holder_n [ inl s ↦ beside_not f c dn (not odd) (leaders far) sides.1 (subst (λ y. In y (leaders far)) (e ∙ sym s) i) | inr y ↦ both z (subst (λ u. In u (leaders near)) (sym e) y) i ]
+    far_away : (z : ℕ) → In z (lasts far) → z ≢ w.holder
+    far_away z i e = elim holder_n [ inl s ↦ beside_not f c dn (not odd) (lasts far) sides.1 (subst (λ y. In y (lasts far)) (e ∙ sym s) i) | inr y ↦ both z (subst (λ u. In u (lasts near)) (sym e) y) i ]
 
     -- the two sides without it
     near_tree : IsTree cut_n (link_in cut_n c (side odd)) pruned
     near_tree = hole.turned cut_n Bare stays_n (λ b j o n. link_other f w.holder w.link None b j (λ s e. n e s)) trees.2
-        (link_at f w.holder w.link None (have w.holder (alive w.holder holder_xs)) (holds_small m (leaders (forked odd c near far)) w.holder w.link holds_n))
+        (link_at f w.holder w.link None (have w.holder (alive w.holder holder_xs)) (holds_small m (lasts (forked odd c near far)) w.holder w.link holds_n))
 
     far_tree : IsTree cut_n (link_in cut_n c (side (not odd))) far
     far_tree = subst (λ o. IsTree cut_n o far)
-        (sym (link_other f w.holder w.link None c (side (not odd)) (λ s e. elim hole.holds [ inl x ↦ sides_differ odd (s ∙ x.1) | inr o ↦ beside_not f c dn odd (leaders near) sides.0 (subst (λ y. In y (leaders near)) (sym e) (out_near w.holder o.0)) ])))
+        (sym (link_other f w.holder w.link None c (side (not odd)) (λ s e. elim hole.holds [ inl x ↦ sides_differ odd (s ∙ x.1) | inr o ↦ beside_not f c dn odd (lasts near) sides.0 (subst (λ y. In y (lasts near)) (sym e) (out_near w.holder o.0)) ])))
         (tree_frame f cut_n (link_in f c (side (not odd))) far (λ z i. (link_by f w.holder w.link None z EVEN (far_away z i), link_by f w.holder w.link None z ODD (far_away z i))) stays_n trees.3)
 
     -- they have other classes
-    differs : (z : ℕ) → In z (leaders pruned) → is_key (key_in f z) (key_in f l) ≡ false
-    differs z i = key_differs (key_in f z) (key_in f l) (λ e. gone_n (subst (λ y. In y (leaders pruned)) (sorted_apart f (suc dn) near sides.2 z l (below_n z i) leaf_near e) i))
+    differs : (z : ℕ) → In z (lasts pruned) → is_key (key_in f z) (key_in f l) ≡ false
+    differs z i = key_differs (key_in f z) (key_in f l) (λ e. gone_n (subst (λ y. In y (lasts pruned)) (sorted_apart f (suc dn) near sides.2 z l (below_n z i) leaf_near e) i))
 
-    far_differs : (z : ℕ) → In z (leaders far) → is_key (key_in f z) (key_in f l) ≡ false
+    far_differs : (z : ℕ) → In z (lasts far) → is_key (key_in f z) (key_in f l) ≡ false
     far_differs z i = key_differs (key_in f z) (key_in f l) (λ e. not_both odd (sym (sides.0 l leaf_near).1 ∙ ap (λ (q : ℕ × ℕ). is_odd (rest_at q.0 dn)) (sym e) ∙ (sides.1 z i).1))
 
     side_sorted : IsSorted f dn (forked odd l pruned far)
@@ -817,35 +817,35 @@ module _ (f : ℕ → Option HeldCell) (m c : ℕ) (xs : List ℕ) (t : ClassTre
       → Touches f (dropped f (place_in f p m t).holder (place_in f p m t).link c w.holder w.link (Some l)) m xs p × (u : ClassTree) × AreClassed (dropped f (place_in f p m t).holder (place_in f p m t).link c w.holder w.link (Some l)) m xs' u
   side_filed xs' lists inside false near far is_x l w hole alone = (
     leaf_touches xs' lists inside near far is_x w.holder w.link l (hole.fill Bare) far
-        (λ z i. elim (in_either z (leaders (hole.fill Bare)) (leaders far) i) [ inl y ↦ in_left z (leaders near) (leaders far) (below_n xs' lists inside false near far is_x l w hole alone z y) | inr y ↦ in_right z (leaders near) (leaders far) y ])
-        (λ z i. elim (in_either z (leaders near) (leaders far) i) [ inl y ↦ elim (all_n xs' lists inside false near far is_x l w hole alone z y) [ inl s ↦ inl s | inr o ↦ inr (in_left z (leaders (hole.fill Bare)) (leaders far) o) ] | inr y ↦ inr (in_right z (leaders (hole.fill Bare)) (leaders far) y) ])
-        (in_left l (leaders near) (leaders far) (leaf_near xs' lists inside false near far is_x l w hole alone))
-        (λ i. elim (in_either l (leaders (hole.fill Bare)) (leaders far) i) [ inl y ↦ gone_n xs' lists inside false near far is_x l w hole alone y | inr y ↦ both xs' lists inside false near far is_x l w hole alone l (leaf_near xs' lists inside false near far is_x l w hole alone) y ])
+        (λ z i. elim (in_either z (lasts (hole.fill Bare)) (lasts far) i) [ inl y ↦ in_left z (lasts near) (lasts far) (below_n xs' lists inside false near far is_x l w hole alone z y) | inr y ↦ in_right z (lasts near) (lasts far) y ])
+        (λ z i. elim (in_either z (lasts near) (lasts far) i) [ inl y ↦ elim (all_n xs' lists inside false near far is_x l w hole alone z y) [ inl s ↦ inl s | inr o ↦ inr (in_left z (lasts (hole.fill Bare)) (lasts far) o) ] | inr y ↦ inr (in_right z (lasts (hole.fill Bare)) (lasts far) y) ])
+        (in_left l (lasts near) (lasts far) (leaf_near xs' lists inside false near far is_x l w hole alone))
+        (λ i. elim (in_either l (lasts (hole.fill Bare)) (lasts far) i) [ inl y ↦ gone_n xs' lists inside false near far is_x l w hole alone y | inr y ↦ both xs' lists inside false near far is_x l w hole alone l (leaf_near xs' lists inside false near far is_x l w hole alone) y ])
         (holds_n xs' lists inside false near far is_x l w hole alone) (not_m_n xs' lists inside false near far is_x l w hole alone)
         (near_tree xs' lists inside false near far is_x l w hole alone) (far_tree xs' lists inside false near far is_x l w hole alone) (side_sorted xs' lists inside false near far is_x l w hole alone),
     _,
     leaf_classed xs' lists inside near far is_x w.holder w.link l (hole.fill Bare) far
-        (λ z i. elim (in_either z (leaders (hole.fill Bare)) (leaders far) i) [ inl y ↦ in_left z (leaders near) (leaders far) (below_n xs' lists inside false near far is_x l w hole alone z y) | inr y ↦ in_right z (leaders near) (leaders far) y ])
-        (λ z i. elim (in_either z (leaders near) (leaders far) i) [ inl y ↦ elim (all_n xs' lists inside false near far is_x l w hole alone z y) [ inl s ↦ inl s | inr o ↦ inr (in_left z (leaders (hole.fill Bare)) (leaders far) o) ] | inr y ↦ inr (in_right z (leaders (hole.fill Bare)) (leaders far) y) ])
-        (in_left l (leaders near) (leaders far) (leaf_near xs' lists inside false near far is_x l w hole alone))
-        (λ i. elim (in_either l (leaders (hole.fill Bare)) (leaders far) i) [ inl y ↦ gone_n xs' lists inside false near far is_x l w hole alone y | inr y ↦ both xs' lists inside false near far is_x l w hole alone l (leaf_near xs' lists inside false near far is_x l w hole alone) y ])
+        (λ z i. elim (in_either z (lasts (hole.fill Bare)) (lasts far) i) [ inl y ↦ in_left z (lasts near) (lasts far) (below_n xs' lists inside false near far is_x l w hole alone z y) | inr y ↦ in_right z (lasts near) (lasts far) y ])
+        (λ z i. elim (in_either z (lasts near) (lasts far) i) [ inl y ↦ elim (all_n xs' lists inside false near far is_x l w hole alone z y) [ inl s ↦ inl s | inr o ↦ inr (in_left z (lasts (hole.fill Bare)) (lasts far) o) ] | inr y ↦ inr (in_right z (lasts (hole.fill Bare)) (lasts far) y) ])
+        (in_left l (lasts near) (lasts far) (leaf_near xs' lists inside false near far is_x l w hole alone))
+        (λ i. elim (in_either l (lasts (hole.fill Bare)) (lasts far) i) [ inl y ↦ gone_n xs' lists inside false near far is_x l w hole alone y | inr y ↦ both xs' lists inside false near far is_x l w hole alone l (leaf_near xs' lists inside false near far is_x l w hole alone) y ])
         (holds_n xs' lists inside false near far is_x l w hole alone) (not_m_n xs' lists inside false near far is_x l w hole alone)
         (near_tree xs' lists inside false near far is_x l w hole alone) (far_tree xs' lists inside false near far is_x l w hole alone) (side_sorted xs' lists inside false near far is_x l w hole alone),
   )
   side_filed xs' lists inside true near far is_x l w hole alone = (
     leaf_touches xs' lists inside far near is_x w.holder w.link l far (hole.fill Bare)
-        (λ z i. elim (in_either z (leaders far) (leaders (hole.fill Bare)) i) [ inl y ↦ in_left z (leaders far) (leaders near) y | inr y ↦ in_right z (leaders far) (leaders near) (below_n xs' lists inside true near far is_x l w hole alone z y) ])
-        (λ z i. elim (in_either z (leaders far) (leaders near) i) [ inl y ↦ inr (in_left z (leaders far) (leaders (hole.fill Bare)) y) | inr y ↦ elim (all_n xs' lists inside true near far is_x l w hole alone z y) [ inl s ↦ inl s | inr o ↦ inr (in_right z (leaders far) (leaders (hole.fill Bare)) o) ] ])
-        (in_right l (leaders far) (leaders near) (leaf_near xs' lists inside true near far is_x l w hole alone))
-        (λ i. elim (in_either l (leaders far) (leaders (hole.fill Bare)) i) [ inl y ↦ both xs' lists inside true near far is_x l w hole alone l (leaf_near xs' lists inside true near far is_x l w hole alone) y | inr y ↦ gone_n xs' lists inside true near far is_x l w hole alone y ])
+        (λ z i. elim (in_either z (lasts far) (lasts (hole.fill Bare)) i) [ inl y ↦ in_left z (lasts far) (lasts near) y | inr y ↦ in_right z (lasts far) (lasts near) (below_n xs' lists inside true near far is_x l w hole alone z y) ])
+        (λ z i. elim (in_either z (lasts far) (lasts near) i) [ inl y ↦ inr (in_left z (lasts far) (lasts (hole.fill Bare)) y) | inr y ↦ elim (all_n xs' lists inside true near far is_x l w hole alone z y) [ inl s ↦ inl s | inr o ↦ inr (in_right z (lasts far) (lasts (hole.fill Bare)) o) ] ])
+        (in_right l (lasts far) (lasts near) (leaf_near xs' lists inside true near far is_x l w hole alone))
+        (λ i. elim (in_either l (lasts far) (lasts (hole.fill Bare)) i) [ inl y ↦ both xs' lists inside true near far is_x l w hole alone l (leaf_near xs' lists inside true near far is_x l w hole alone) y | inr y ↦ gone_n xs' lists inside true near far is_x l w hole alone y ])
         (holds_n xs' lists inside true near far is_x l w hole alone) (not_m_n xs' lists inside true near far is_x l w hole alone)
         (far_tree xs' lists inside true near far is_x l w hole alone) (near_tree xs' lists inside true near far is_x l w hole alone) (side_sorted xs' lists inside true near far is_x l w hole alone),
     _,
     leaf_classed xs' lists inside far near is_x w.holder w.link l far (hole.fill Bare)
-        (λ z i. elim (in_either z (leaders far) (leaders (hole.fill Bare)) i) [ inl y ↦ in_left z (leaders far) (leaders near) y | inr y ↦ in_right z (leaders far) (leaders near) (below_n xs' lists inside true near far is_x l w hole alone z y) ])
-        (λ z i. elim (in_either z (leaders far) (leaders near) i) [ inl y ↦ inr (in_left z (leaders far) (leaders (hole.fill Bare)) y) | inr y ↦ elim (all_n xs' lists inside true near far is_x l w hole alone z y) [ inl s ↦ inl s | inr o ↦ inr (in_right z (leaders far) (leaders (hole.fill Bare)) o) ] ])
-        (in_right l (leaders far) (leaders near) (leaf_near xs' lists inside true near far is_x l w hole alone))
-        (λ i. elim (in_either l (leaders far) (leaders (hole.fill Bare)) i) [ inl y ↦ both xs' lists inside true near far is_x l w hole alone l (leaf_near xs' lists inside true near far is_x l w hole alone) y | inr y ↦ gone_n xs' lists inside true near far is_x l w hole alone y ])
+        (λ z i. elim (in_either z (lasts far) (lasts (hole.fill Bare)) i) [ inl y ↦ in_left z (lasts far) (lasts near) y | inr y ↦ in_right z (lasts far) (lasts near) (below_n xs' lists inside true near far is_x l w hole alone z y) ])
+        (λ z i. elim (in_either z (lasts far) (lasts near) i) [ inl y ↦ inr (in_left z (lasts far) (lasts (hole.fill Bare)) y) | inr y ↦ elim (all_n xs' lists inside true near far is_x l w hole alone z y) [ inl s ↦ inl s | inr o ↦ inr (in_right z (lasts far) (lasts (hole.fill Bare)) o) ] ])
+        (in_right l (lasts far) (lasts near) (leaf_near xs' lists inside true near far is_x l w hole alone))
+        (λ i. elim (in_either l (lasts far) (lasts (hole.fill Bare)) i) [ inl y ↦ both xs' lists inside true near far is_x l w hole alone l (leaf_near xs' lists inside true near far is_x l w hole alone) y | inr y ↦ gone_n xs' lists inside true near far is_x l w hole alone y ])
         (holds_n xs' lists inside true near far is_x l w hole alone) (not_m_n xs' lists inside true near far is_x l w hole alone)
         (far_tree xs' lists inside true near far is_x l w hole alone) (near_tree xs' lists inside true near far is_x l w hole alone) (side_sorted xs' lists inside true near far is_x l w hole alone),
   )

@@ -8,25 +8,25 @@ use Rattle.lmn_store_heap.proofs.ListLemmas.{apart, in_split, without_at}
 use Rattle.lmn_web_cells.specs.Cells.{HeldCell, HaveLinks, IsLinkWord, link_of, numbers_of}
 use Rattle.lmn_web_cells.specs.Runs.{link_in, put_before}
 use Rattle.lmn_web_cells.proofs.InsertLemmas.{put_at}
-use Rattle.lmn_web.specs.Classes.{ClassTree, Bare, Fork, Hung, leaders, top, IsTree, IsSorted, lowest_below, class_node, key_in, is_key, of_class, ends_class, Linked, IsRing, place_in, begun, lengthened, put_inside, closed, shortened, dropped, MayFile, ClassBecomes, Refiled}
+use Rattle.lmn_web.specs.Classes.{ClassTree, Bare, Fork, Hung, lasts, top, IsTree, IsSorted, lowest_below, class_node, key_in, is_key, of_class, ends_class, Linked, IsRing, place_in, begun, lengthened, put_inside, closed, shortened, dropped, MayFile, ClassBecomes, Refiled}
 use Rattle.lmn_web_cells.specs.Links.{CLASS_NEXT, CLASS_PREV, EVEN, ODD, LEADERS}
 use Rattle.lmn_web.proofs.Reclassing.{key_same, key_true}
 use Rattle.lmn_web.proofs.Rings.{linked_prev, linked_next, linked_some, ring_last, ring_first, ring_some, ring_prev, ring_next, ring_next_some, ring_end}
-use Rattle.lmn_web.proofs.ClassEnds.{lead_ends, ends_lead, even_alive}
+use Rattle.lmn_web.proofs.ClassEnds.{last_ends, ends_last, even_alive}
 use Rattle.lmn_web.proofs.ClassTrees.{beside_not, some_lowest, sorted_apart}
-use Rattle.lmn_web.proofs.ClassPlaces.{at, fork_of, holds_there, holds_atoms, link_small, leader_in, class_none}
+use Rattle.lmn_web.proofs.ClassPlaces.{at, fork_of, holds_there, holds_atoms, link_small, last_in, class_none}
 use Rattle.lmn_web.proofs.ClassRuns.{inside_classed, inside_touches, closed_classed, closed_touches, shorter_classed, shorter_touches, bare_classed, bare_touches, side_filed, begun_classed, begun_touches, longer_classed, longer_touches}
 use Rattle.lmn_store_heap.proofs.Filters.{in_filter, filter_in, distinct_filter}
 
 -- the last one of a class that is found, with the ring of the class
-pub record Leads (f : ℕ → Option HeldCell) (xs : List ℕ) (t : ClassTree) (p : ℕ × ℕ) (l : ℕ) : Type 0 where
-  pub inside : In l (leaders t)
+pub record LastFound (f : ℕ → Option HeldCell) (xs : List ℕ) (t : ClassTree) (p : ℕ × ℕ) (l : ℕ) : Type 0 where
+  pub inside : In l (lasts t)
   pub key : is_key (key_in f l) p ≡ true
   pub alive : IsSome (f l)
   pub ring : IsRing f l (of_class f p xs)
 
-pub leads : (f : ℕ → Option HeldCell) (m c : ℕ) (xs : List ℕ) (t : ClassTree) → MayFile f m c xs t → (p : ℕ × ℕ) (l : ℕ) → top (place_in f p m t).tree ≡ Some l → Leads f xs t p l
-leads f m c xs t a p l e = let w = leader_in f m xs t a.classed a.no_m p l e in record {
+pub last_found : (f : ℕ → Option HeldCell) (m c : ℕ) (xs : List ℕ) (t : ClassTree) → MayFile f m c xs t → (p : ℕ × ℕ) (l : ℕ) → top (place_in f p m t).tree ≡ Some l → LastFound f xs t p l
+last_found f m c xs t a p l e = let w = last_in f m xs t a.classed a.no_m p l e in record {
   inside = w.0;
   key = w.1;
   alive = a.alive l (a.classed.inside l w.0);
@@ -36,13 +36,13 @@ leads f m c xs t a p l e = let w = leader_in f m xs t a.classed a.no_m p l e in 
 -- its first one is there
 pub first_alive : (f : ℕ → Option HeldCell) (m c : ℕ) (xs : List ℕ) (t : ClassTree) → MayFile f m c xs t → (p : ℕ × ℕ) (l : ℕ) → top (place_in f p m t).tree ≡ Some l → (d : ℕ) → link_in f l CLASS_NEXT ≡ Some d → IsSome (f d)
 first_alive f m c xs t a p l e d s =
-    let w = leads f m c xs t a p l e in
+    let w = last_found f m c xs t a p l e in
     a.alive d (in_filter (λ z. is_key (key_in f z) p) d xs (ring_first (class_node f) l (of_class f p xs) w.ring.1 w.ring.2 w.ring.0 d s).0).0
 
 -- and there is one
 pub first_some : (f : ℕ → Option HeldCell) (m c : ℕ) (xs : List ℕ) (t : ClassTree) → MayFile f m c xs t → (p : ℕ × ℕ) (l : ℕ) → top (place_in f p m t).tree ≡ Some l → link_in f l CLASS_NEXT ≡ None → ⊥
 first_some f m c xs t a p l e s =
-    let w = leads f m c xs t a p l e in let r = ring_some (class_node f) l (of_class f p xs) w.ring.1 w.ring.2 w.ring.0 in
+    let w = last_found f m c xs t a p l e in let r = ring_some (class_node f) l (of_class f p xs) w.ring.1 w.ring.2 w.ring.0 in
     let z : ◌≡◌ {A = Option ℕ} None (Some r.0) = sym s ∙ r.1 in cc
 
 -- an atom begins a class
@@ -70,8 +70,8 @@ filed_longer f have m c xs t xs' a fresh one l d e s =
 -- An atom that is filed
 
 -- its class has a last one
-pub lead_is : (f : ℕ → Option HeldCell) (m c : ℕ) (xs : List ℕ) (t : ClassTree) → MayFile f m c xs t → In c xs → (l : ℕ) × (top (place_in f (key_in f c) m t).tree ≡ Some l)
-lead_is f m c xs t a i = by (top (place_in f (key_in f c) m t).tree) refl
+pub last_there : (f : ℕ → Option HeldCell) (m c : ℕ) (xs : List ℕ) (t : ClassTree) → MayFile f m c xs t → In c xs → (l : ℕ) × (top (place_in f (key_in f c) m t).tree ≡ Some l)
+last_there f m c xs t a i = by (top (place_in f (key_in f c) m t).tree) refl
   where
     by : (o : Option ℕ) → top (place_in f (key_in f c) m t).tree ≡ o → (l : ℕ) × (top (place_in f (key_in f c) m t).tree ≡ Some l)
     by None e = absurd (subst (λ us. In c us) (class_none f m xs t a.classed a.no_m (key_in f c) e) (filter_in (λ z. is_key (key_in f z) (key_in f c)) c xs i (key_same (key_in f c))))
@@ -107,23 +107,23 @@ pub record Among (f : ℕ → Option HeldCell) (m : ℕ) (xs : List ℕ) (t : Cl
   pub is : of_class f (key_in f c) xs ≡ us ++ (c ∷ vs)
   pub once : Distinct (us ++ (c ∷ vs))
   pub l : ℕ
-  pub lead : top (place_in f (key_in f c) m t).tree ≡ Some l
-  pub leads : Leads f xs t (key_in f c) l
+  pub hung : top (place_in f (key_in f c) m t).tree ≡ Some l
+  pub last_found : LastFound f xs t (key_in f c) l
   pub ring : IsRing f l (us ++ (c ∷ vs))
 
 pub among : (f : ℕ → Option HeldCell) (m c : ℕ) (xs : List ℕ) (t : ClassTree) → MayFile f m c xs t → In c xs → Among f m xs t c
 among f m c xs t a i =
     let s = in_split c (of_class f (key_in f c) xs) (filter_in (λ z. is_key (key_in f z) (key_in f c)) c xs i (key_same (key_in f c))) in
-    let l = lead_is f m c xs t a i in
-    let w = leads f m c xs t a (key_in f c) l.0 l.1 in
+    let l = last_there f m c xs t a i in
+    let w = last_found f m c xs t a (key_in f c) l.0 l.1 in
     record {
       us = s.0;
       vs = s.1;
       is = s.2;
       once = subst Distinct s.2 (distinct_filter (λ z. is_key (key_in f z) (key_in f c)) xs a.once);
       l = l.0;
-      lead = l.1;
-      leads = w;
+      hung = l.1;
+      last_found = w;
       ring = subst (λ us. IsRing f l.0 us) s.2 w.ring;
     }
 
@@ -164,7 +164,7 @@ even_there f m c xs t a i d e = even_alive f m xs t a.classed a.kinds a.home a.t
 -- the last one of its class is found
 pub last_is : (f : ℕ → Option HeldCell) (m c : ℕ) (xs : List ℕ) (t : ClassTree) → MayFile f m c xs t → (w : Among f m xs t c) → (z : ℕ) → In z xs → is_key (key_in f z) (key_in f c) ≡ true → ends_class f z ≡ true → w.l ≡ z
 last_is f m c xs t a w z i e n =
-    sorted_apart f 0 t a.classed.sorted w.l z w.leads.inside (ends_lead f m xs t a.classed a.kinds a.home z i n) (key_true (key_in f w.l) (key_in f c) w.leads.key ∙ sym (key_true (key_in f z) (key_in f c) e))
+    sorted_apart f 0 t a.classed.sorted w.l z w.last_found.inside (ends_last f m xs t a.classed a.kinds a.home z i n) (key_true (key_in f w.l) (key_in f c) w.last_found.key ∙ sym (key_true (key_in f z) (key_in f c) e))
 
 -- it leaves, and isn't the last
 pub filed_closed : (f : ℕ → Option HeldCell) → HaveLinks f → (m c : ℕ) (xs : List ℕ) (t : ClassTree) (xs' : List ℕ) → MayFile f m c xs t → In c xs → ClassBecomes f (key_in f c) xs (without c (of_class f (key_in f c) xs)) xs' → (pr nx : ℕ) → link_in f c CLASS_PREV ≡ Some pr → link_in f c CLASS_NEXT ≡ Some nx → ends_class f c ≡ false
@@ -174,7 +174,7 @@ filed_closed f have m c xs t xs' a i one pr nx prev next inner =
     let behind : (ws : List ℕ) × (w.vs ≡ nx ∷ ws) = elim (linked_next (class_node f) w.l w.us c w.vs w.ring.0 nx next) [
       | inl s ↦ absurd (
           let same : w.us ++ c ∷ [] ≡ w.ring.1 ++ w.l ∷ [] = ap (λ ws. w.us ++ (c ∷ ws)) (sym s) ∙ w.ring.2 in
-          let z : true ≡ false = sym (lead_ends f m xs t a.classed a.kinds a.home w.l w.leads.inside) ∙ ap (ends_class f) (sym (last_one w.us w.ring.1 c w.l same).1) ∙ inner in cc
+          let z : true ≡ false = sym (last_ends f m xs t a.classed a.kinds a.home w.l w.last_found.inside) ∙ ap (ends_class f) (sym (last_one w.us w.ring.1 c w.l same).1) ∙ inner in cc
           )
       | inr s ↦ s
     ] in
@@ -185,7 +185,7 @@ filed_closed f have m c xs t xs' a i one pr nx prev next inner =
     record {
       touches = closed_touches f m c xs t have a.classed a.alive a.once a.there_m a.there_c a.no_m a.not_m pr nx pr_in nx_in;
       tree = t;
-      classed = closed_classed f m c xs t have a.classed a.alive a.once a.there_m a.there_c a.no_m a.not_m pr nx pr_in nx_in xs' w.us behind.0 w.l one.others cut inside w.leads.inside w.leads.key prev;
+      classed = closed_classed f m c xs t have a.classed a.alive a.once a.there_m a.there_c a.no_m a.not_m pr nx pr_in nx_in xs' w.us behind.0 w.l one.others cut inside w.last_found.inside w.last_found.key prev;
     }
 
 -- The last one leaves
@@ -197,8 +197,8 @@ last_behind f m c xs t a i last w =
     (same, ring_end c w.us w.vs w.ring.1 (w.ring.2 ∙ ap (λ z. w.ring.1 ++ z ∷ []) same) w.once)
 
 -- it is found
-pub leads_itself : (f : ℕ → Option HeldCell) (m c : ℕ) (xs : List ℕ) (t : ClassTree) → MayFile f m c xs t → In c xs → ends_class f c ≡ true → top (place_in f (key_in f c) m t).tree ≡ Some c
-leads_itself f m c xs t a i last = let w = among f m c xs t a i in w.lead ∙ ap Some (last_behind f m c xs t a i last w).0
+pub hung_itself : (f : ℕ → Option HeldCell) (m c : ℕ) (xs : List ℕ) (t : ClassTree) → MayFile f m c xs t → In c xs → ends_class f c ≡ true → top (place_in f (key_in f c) m t).tree ≡ Some c
+hung_itself f m c xs t a i last = let w = among f m c xs t a i in w.hung ∙ ap Some (last_behind f m c xs t a i last w).0
 
 -- it leaves, and the one before it is the last
 pub filed_shorter : (f : ℕ → Option HeldCell) → HaveLinks f → (m c : ℕ) (xs : List ℕ) (t : ClassTree) (xs' : List ℕ) → MayFile f m c xs t → In c xs → ClassBecomes f (key_in f c) xs (without c (of_class f (key_in f c) xs)) xs' → (pr nx : ℕ) → ends_class f c ≡ true → link_in f c CLASS_PREV ≡ Some pr → link_in f c CLASS_NEXT ≡ Some nx
@@ -209,7 +209,7 @@ filed_shorter f have m c xs t xs' a i one pr nx last prev next inner =
     let alone : w.us ++ (c ∷ w.vs) ≡ nx ∷ (front.0 ++ c ∷ []) = (λ u. front.1 u ++ (c ∷ b.1 u)) in
     let cut : of_class f (key_in f c) xs ≡ nx ∷ (front.0 ++ c ∷ []) = w.is ∙ alone in
     let inside : of_class f (key_in f c) xs' ≡ nx ∷ front.0 = one.own ∙ ap (without c) cut ∙ without_at (nx ∷ front.0) c [] (subst Distinct alone w.once) ∙ plus_nothing (nx ∷ front.0) in
-    let k = fork_of (place_in f (key_in f c) m t).tree c (leads_itself f m c xs t a i last) in
+    let k = fork_of (place_in f (key_in f c) m t).tree c (hung_itself f m c xs t a i last) in
     record {
       touches = shorter_touches f m c xs t have a.classed a.alive a.once a.there_m a.there_c a.no_m a.not_m xs' front.0 pr nx one.others cut inside k.0 k.1 k.2 prev;
       tree = _;
@@ -224,7 +224,7 @@ filed_shorter f have m c xs t xs' a i one pr nx last prev next inner =
 
 -- the tree from there on
 pub begins_tree : (f : ℕ → Option HeldCell) (m c : ℕ) (xs : List ℕ) (t : ClassTree) → MayFile f m c xs t → In c xs → ends_class f c ≡ true → (a : ClassTree) × (b : ClassTree) × ((place_in f (key_in f c) m t).tree ≡ Fork c a b)
-begins_tree f m c xs t a i last = fork_of (place_in f (key_in f c) m t).tree c (leads_itself f m c xs t a i last)
+begins_tree f m c xs t a i last = fork_of (place_in f (key_in f c) m t).tree c (hung_itself f m c xs t a i last)
 
 -- below it
 pub below_is : (f : ℕ → Option HeldCell) (m c : ℕ) (xs : List ℕ) (t : ClassTree) → MayFile f m c xs t → (x : ℕ) (a b : ClassTree) → (place_in f (key_in f c) m t).tree ≡ Fork x a b → IsTree f (link_in f x EVEN) a × IsTree f (link_in f x ODD) b × (d : ℕ) × IsSorted f d a × IsSorted f d b
@@ -237,7 +237,7 @@ below_is f m c xs t may x a b is =
 -- or its class is gone, and one from below it, if there is one, takes its place
 pub filed_dropped : (f : ℕ → Option HeldCell) → HaveLinks f → (m c : ℕ) (xs : List ℕ) (t : ClassTree) (xs' : List ℕ) → MayFile f m c xs t → In c xs → ClassBecomes f (key_in f c) xs (without c (of_class f (key_in f c) xs)) xs' → (pr : ℕ) → ends_class f c ≡ true → link_in f c CLASS_PREV ≡ Some pr → ends_class f pr ≡ true
     → (l r : ClassTree) → (place_in f (key_in f c) m t).tree ≡ Fork c l r
-    → Refiled f (dropped f (place_in f (key_in f c) m t).holder (place_in f (key_in f c) m t).link c (lowest_below c l r).holder (lowest_below c l r).link (lowest_below c l r).leader) m xs (key_in f c) xs'
+    → Refiled f (dropped f (place_in f (key_in f c) m t).holder (place_in f (key_in f c) m t).link c (lowest_below c l r).holder (lowest_below c l r).link (lowest_below c l r).last) m xs (key_in f c) xs'
 filed_dropped f have m c xs t xs' a i one pr last prev alone l r is = by l r is
   where
     inside : of_class f (key_in f c) xs' ≡ []
@@ -253,7 +253,7 @@ filed_dropped f have m c xs t xs' a i one pr last prev alone l r is = by l r is
         one.own ∙ ap (without c) cut ∙ without_at [] c [] (subst Distinct (sym w.is ∙ cut) w.once)
 
     by : (l r : ClassTree) → (place_in f (key_in f c) m t).tree ≡ Fork c l r
-        → Refiled f (dropped f (place_in f (key_in f c) m t).holder (place_in f (key_in f c) m t).link c (lowest_below c l r).holder (lowest_below c l r).link (lowest_below c l r).leader) m xs (key_in f c) xs'
+        → Refiled f (dropped f (place_in f (key_in f c) m t).holder (place_in f (key_in f c) m t).link c (lowest_below c l r).holder (lowest_below c l r).link (lowest_below c l r).last) m xs (key_in f c) xs'
     by Bare Bare is = record {
       touches = bare_touches f m c xs t have a.classed a.alive a.once a.there_m a.there_c a.no_m a.not_m xs' one.others inside Bare Bare is refl;
       tree = _;
@@ -262,15 +262,15 @@ filed_dropped f have m c xs t xs' a i one pr last prev alone l r is = by l r is
     by Bare (Fork q u v) is =
         let d = (place_in f (key_in f c) m t).depth in
         let s : IsSorted f d (Fork c Bare (Fork q u v)) = subst (λ y. IsSorted f d y) is (at f m xs t a.classed a.no_m (key_in f c)).hole.sorted in
-        let w = some_lowest f c ODD (suc d) (Fork q u v) s.3 (beside_not f c d true (leaders (Fork q u v)) s.1) q refl in
+        let w = some_lowest f c ODD (suc d) (Fork q u v) s.3 (beside_not f c d true (lasts (Fork q u v)) s.1) q refl in
         let filed = side_filed f m c xs t have a.classed a.alive a.once a.there_m a.there_c a.no_m a.not_m xs' one.others inside true (Fork q u v) Bare is w.0 w.1.place w.1.hole w.1.alone in
-        subst (λ (y : Hung). Refiled f (dropped f (place_in f (key_in f c) m t).holder (place_in f (key_in f c) m t).link c y.holder y.link y.leader) m xs (key_in f c) xs') (sym w.1.is) record { touches = filed.0; tree = filed.1; classed = filed.2 }
+        subst (λ (y : Hung). Refiled f (dropped f (place_in f (key_in f c) m t).holder (place_in f (key_in f c) m t).link c y.holder y.link y.last) m xs (key_in f c) xs') (sym w.1.is) record { touches = filed.0; tree = filed.1; classed = filed.2 }
     by (Fork q u v) r is =
         let d = (place_in f (key_in f c) m t).depth in
         let s : IsSorted f d (Fork c (Fork q u v) r) = subst (λ y. IsSorted f d y) is (at f m xs t a.classed a.no_m (key_in f c)).hole.sorted in
-        let w = some_lowest f c EVEN (suc d) (Fork q u v) s.2 (beside_not f c d false (leaders (Fork q u v)) s.0) q refl in
+        let w = some_lowest f c EVEN (suc d) (Fork q u v) s.2 (beside_not f c d false (lasts (Fork q u v)) s.0) q refl in
         let filed = side_filed f m c xs t have a.classed a.alive a.once a.there_m a.there_c a.no_m a.not_m xs' one.others inside false (Fork q u v) r is w.0 w.1.place w.1.hole w.1.alone in
-        subst (λ (y : Hung). Refiled f (dropped f (place_in f (key_in f c) m t).holder (place_in f (key_in f c) m t).link c y.holder y.link y.leader) m xs (key_in f c) xs') (sym w.1.is) record { touches = filed.0; tree = filed.1; classed = filed.2 }
+        subst (λ (y : Hung). Refiled f (dropped f (place_in f (key_in f c) m t).holder (place_in f (key_in f c) m t).link c y.holder y.link y.last) m xs (key_in f c) xs') (sym w.1.is) record { touches = filed.0; tree = filed.1; classed = filed.2 }
 
 -- An atom comes before another of its class
 
@@ -293,9 +293,9 @@ filed_inside f have m c xs t xs' a fresh d i k one pr prev =
     let w = among f m d xs t (may_other f m c xs t a d i) i in
     let cut : of_class f (key_in f c) xs ≡ w.us ++ (d ∷ w.vs) = ap (λ p. of_class f p xs) (sym k) ∙ w.is in
     let inside : of_class f (key_in f c) xs' ≡ w.us ++ (c ∷ d ∷ w.vs) = one.own ∙ ap (put_before c d) cut ∙ put_at c w.us d w.vs w.once in
-    let key_l : is_key (key_in f w.l) (key_in f c) ≡ true = subst (λ p. is_key (key_in f w.l) p ≡ true) k w.leads.key in
+    let key_l : is_key (key_in f w.l) (key_in f c) ≡ true = subst (λ p. is_key (key_in f w.l) p ≡ true) k w.last_found.key in
     record {
-      touches = inside_touches f m c xs t have a.classed a.alive a.once a.there_m a.there_c a.no_m a.not_m xs' w.us w.vs w.l pr d one.others cut inside fresh w.leads.inside key_l prev;
+      touches = inside_touches f m c xs t have a.classed a.alive a.once a.there_m a.there_c a.no_m a.not_m xs' w.us w.vs w.l pr d one.others cut inside fresh w.last_found.inside key_l prev;
       tree = t;
-      classed = inside_classed f m c xs t have a.classed a.alive a.once a.there_m a.there_c a.no_m a.not_m xs' w.us w.vs w.l pr d one.others cut inside fresh w.leads.inside key_l prev;
+      classed = inside_classed f m c xs t have a.classed a.alive a.once a.there_m a.there_c a.no_m a.not_m xs' w.us w.vs w.l pr d one.others cut inside fresh w.last_found.inside key_l prev;
     }

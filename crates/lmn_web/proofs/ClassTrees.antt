@@ -1,4 +1,4 @@
--- The tree of the first atoms of the classes of a membrane.
+-- The tree of the last atoms of the classes of a membrane.
 use Rattle.std.proofs.Common.{◌≡◌, ◌⊎◌, ℕ, suc, Bool, true, false, not, List, [], ◌∷◌, ◌++◌, if◌then◌else◌, Option, Some, IsSome, refl, sym, ap, subst, ◌∙◌, inl, inr, arith}
 use Rattle.lmn_base.specs.Lists.{In}
 use Rattle.lmn_base.proofs.Lists.{in_either}
@@ -8,7 +8,7 @@ use Rattle.lmn_store_heap.proofs.ListLemmas.{each_of, in_left, in_right}
 use Rattle.lmn_store_heap.proofs.Depths.{both_distinct}
 use Rattle.lmn_web_cells.specs.Cells.{HeldCell}
 use Rattle.lmn_web_cells.specs.Runs.{link_in}
-use Rattle.lmn_web.specs.Classes.{ClassTree, Bare, Fork, leaders, top, IsTree, rest_at, is_odd, AreBeside, IsSorted, ClassPlace, class_place, Hung, lowest, is_key, key_in}
+use Rattle.lmn_web.specs.Classes.{ClassTree, Bare, Fork, lasts, top, IsTree, rest_at, is_odd, AreBeside, IsSorted, ClassPlace, class_place, Hung, lowest, is_key, key_in}
 use Rattle.lmn_web_cells.specs.Links.{EVEN, ODD}
 use Rattle.lmn_web.proofs.Reclassing.{key_same, key_true}
 
@@ -22,53 +22,53 @@ beside_not f l d odd ks h i = let w : true ≡ false = sym (key_same (key_in f l
 pub key_differs : (p q : ℕ × ℕ) → (p ≡ q → ⊥) → is_key p q ≡ false
 key_differs p q d = elim (bool_cases (is_key p q)) [ inl e ↦ absurd (d (key_true p q e)) | inr e ↦ e ]
 
--- each first atom stands once
-pub sorted_once : (f : ℕ → Option HeldCell) (d : ℕ) (t : ClassTree) → IsSorted f d t → Distinct (leaders t)
+-- each last atom stands once
+pub sorted_once : (f : ℕ → Option HeldCell) (d : ℕ) (t : ClassTree) → IsSorted f d t → Distinct (lasts t)
 sorted_once f d Bare s = tt
 sorted_once f d (Fork l a b) s = (
-  each_of _ (leaders a ++ leaders b) (λ z i e. elim (in_either z (leaders a) (leaders b) i) [
-    | inl j ↦ beside_not f l d false (leaders a) s.0 (subst (λ u. In u (leaders a)) (sym e) j)
-    | inr j ↦ beside_not f l d true (leaders b) s.1 (subst (λ u. In u (leaders b)) (sym e) j)
+  each_of _ (lasts a ++ lasts b) (λ z i e. elim (in_either z (lasts a) (lasts b) i) [
+    | inl j ↦ beside_not f l d false (lasts a) s.0 (subst (λ u. In u (lasts a)) (sym e) j)
+    | inr j ↦ beside_not f l d true (lasts b) s.1 (subst (λ u. In u (lasts b)) (sym e) j)
   ]),
-  both_distinct (leaders a) (leaders b) (sorted_once f (suc d) a s.2) (sorted_once f (suc d) b s.3) (λ z i j. let w : false ≡ true = sym (s.0 z i).1 ∙ (s.1 z j).1 in absurd cc),
+  both_distinct (lasts a) (lasts b) (sorted_once f (suc d) a s.2) (sorted_once f (suc d) b s.3) (λ z i j. let w : false ≡ true = sym (s.0 z i).1 ∙ (s.1 z j).1 in absurd cc),
 )
 
 -- none below another has its class
-pub below_differs : (f : ℕ → Option HeldCell) (l d : ℕ) (a b : ClassTree) → IsSorted f d (Fork l a b) → (k : ℕ) → In k (leaders a ++ leaders b) → is_key (key_in f k) (key_in f l) ≡ false
-below_differs f l d a b s k o = elim (in_either k (leaders a) (leaders b) o) [ inl i ↦ (s.0 k i).0 | inr i ↦ (s.1 k i).0 ]
+pub below_differs : (f : ℕ → Option HeldCell) (l d : ℕ) (a b : ClassTree) → IsSorted f d (Fork l a b) → (k : ℕ) → In k (lasts a ++ lasts b) → is_key (key_in f k) (key_in f l) ≡ false
+below_differs f l d a b s k o = elim (in_either k (lasts a) (lasts b) o) [ inl i ↦ (s.0 k i).0 | inr i ↦ (s.1 k i).0 ]
 
 -- a class stands once
-pub sorted_apart : (f : ℕ → Option HeldCell) (d : ℕ) (t : ClassTree) → IsSorted f d t → (j k : ℕ) → In j (leaders t) → In k (leaders t) → key_in f j ≡ key_in f k → j ≡ k
+pub sorted_apart : (f : ℕ → Option HeldCell) (d : ℕ) (t : ClassTree) → IsSorted f d t → (j k : ℕ) → In j (lasts t) → In k (lasts t) → key_in f j ≡ key_in f k → j ≡ k
 sorted_apart f d Bare s j k i o e = absurd i
 sorted_apart f d (Fork l a b) s j k (inl x) (inl y) e = sym x ∙ y
 sorted_apart f d (Fork l a b) s j k (inl x) (inr o) e =
     let w : true ≡ false = sym (key_same (key_in f l)) ∙ ap (λ p. is_key p (key_in f l)) (ap (key_in f) x ∙ e) ∙ below_differs f l d a b s k o in absurd cc
 sorted_apart f d (Fork l a b) s j k (inr i) (inl y) e =
     let w : true ≡ false = sym (key_same (key_in f l)) ∙ ap (λ p. is_key p (key_in f l)) (ap (key_in f) y ∙ sym e) ∙ below_differs f l d a b s j i in absurd cc
-sorted_apart f d (Fork l a b) s j k (inr i) (inr o) e = elim (in_either j (leaders a) (leaders b) i) [
-  | inl x ↦ elim (in_either k (leaders a) (leaders b) o) [
+sorted_apart f d (Fork l a b) s j k (inr i) (inr o) e = elim (in_either j (lasts a) (lasts b) i) [
+  | inl x ↦ elim (in_either k (lasts a) (lasts b) o) [
     | inl y ↦ sorted_apart f (suc d) a s.2 j k x y e
     | inr y ↦ absurd (let w : false ≡ true = sym (s.0 j x).1 ∙ ap (λ (p : ℕ × ℕ). is_odd (rest_at p.0 d)) e ∙ (s.1 k y).1 in cc)
   ]
-  | inr x ↦ elim (in_either k (leaders a) (leaders b) o) [
+  | inr x ↦ elim (in_either k (lasts a) (lasts b) o) [
     | inl y ↦ absurd (let w : true ≡ false = sym (s.1 j x).1 ∙ ap (λ (p : ℕ × ℕ). is_odd (rest_at p.0 d)) e ∙ (s.0 k y).1 in cc)
     | inr y ↦ sorted_apart f (suc d) b s.3 j k x y e
   ]
 ]
 
 -- a tree stays where its cells and their links stay
-pub tree_kept : (f g : ℕ → Option HeldCell) (first : Option ℕ) (t : ClassTree) → ((l : ℕ) → In l (leaders t) → (link_in g l EVEN ≡ link_in f l EVEN) × (link_in g l ODD ≡ link_in f l ODD)) → ((l : ℕ) → In l (leaders t) → IsSome (f l) → IsSome (g l)) → IsTree f first t → IsTree g first t
+pub tree_kept : (f g : ℕ → Option HeldCell) (first : Option ℕ) (t : ClassTree) → ((l : ℕ) → In l (lasts t) → (link_in g l EVEN ≡ link_in f l EVEN) × (link_in g l ODD ≡ link_in f l ODD)) → ((l : ℕ) → In l (lasts t) → IsSome (f l) → IsSome (g l)) → IsTree f first t → IsTree g first t
 tree_kept f g first Bare same there q = q
 tree_kept f g first (Fork l a b) same there q =
     let here = same l (inl refl) in (
       q.0,
       there l (inl refl) q.1,
-      subst (λ o. IsTree g o a) (sym here.0) (tree_kept f g (link_in f l EVEN) a (λ k i. same k (inr (in_left k (leaders a) (leaders b) i))) (λ k i. there k (inr (in_left k (leaders a) (leaders b) i))) q.2),
-      subst (λ o. IsTree g o b) (sym here.1) (tree_kept f g (link_in f l ODD) b (λ k i. same k (inr (in_right k (leaders a) (leaders b) i))) (λ k i. there k (inr (in_right k (leaders a) (leaders b) i))) q.3),
+      subst (λ o. IsTree g o a) (sym here.0) (tree_kept f g (link_in f l EVEN) a (λ k i. same k (inr (in_left k (lasts a) (lasts b) i))) (λ k i. there k (inr (in_left k (lasts a) (lasts b) i))) q.2),
+      subst (λ o. IsTree g o b) (sym here.1) (tree_kept f g (link_in f l ODD) b (λ k i. same k (inr (in_right k (lasts a) (lasts b) i))) (λ k i. there k (inr (in_right k (lasts a) (lasts b) i))) q.3),
     )
 
 -- where all cells stay
-pub tree_frame : (f g : ℕ → Option HeldCell) (first : Option ℕ) (t : ClassTree) → ((l : ℕ) → In l (leaders t) → (link_in g l EVEN ≡ link_in f l EVEN) × (link_in g l ODD ≡ link_in f l ODD)) → ((b : ℕ) → IsSome (f b) → IsSome (g b)) → IsTree f first t → IsTree g first t
+pub tree_frame : (f g : ℕ → Option HeldCell) (first : Option ℕ) (t : ClassTree) → ((l : ℕ) → In l (lasts t) → (link_in g l EVEN ≡ link_in f l EVEN) × (link_in g l ODD ≡ link_in f l ODD)) → ((b : ℕ) → IsSome (f b) → IsSome (g b)) → IsTree f first t → IsTree g first t
 tree_frame f g first t same there q = tree_kept f g first t same (λ l _. there l) q
 
 -- A tree by its sides
@@ -95,19 +95,19 @@ not_both false e = absurd cc
 not_both true e = absurd cc
 
 -- what it has
-pub of_forked : (odd : Bool) (l : ℕ) (u v : ClassTree) (z : ℕ) → In z (leaders (forked odd l u v)) → (l ≡ z) ⊎ (In z (leaders u) ⊎ In z (leaders v))
+pub of_forked : (odd : Bool) (l : ℕ) (u v : ClassTree) (z : ℕ) → In z (lasts (forked odd l u v)) → (l ≡ z) ⊎ (In z (lasts u) ⊎ In z (lasts v))
 of_forked false l u v z (inl e) = inl e
-of_forked false l u v z (inr i) = inr (in_either z (leaders u) (leaders v) i)
+of_forked false l u v z (inr i) = inr (in_either z (lasts u) (lasts v) i)
 of_forked true l u v z (inl e) = inl e
-of_forked true l u v z (inr i) = inr (elim (in_either z (leaders v) (leaders u) i) [ inl j ↦ inr j | inr j ↦ inl j ])
+of_forked true l u v z (inr i) = inr (elim (in_either z (lasts v) (lasts u) i) [ inl j ↦ inr j | inr j ↦ inl j ])
 
-pub in_forked : (odd : Bool) (l : ℕ) (u v : ClassTree) (z : ℕ) → (l ≡ z) ⊎ (In z (leaders u) ⊎ In z (leaders v)) → In z (leaders (forked odd l u v))
+pub in_forked : (odd : Bool) (l : ℕ) (u v : ClassTree) (z : ℕ) → (l ≡ z) ⊎ (In z (lasts u) ⊎ In z (lasts v)) → In z (lasts (forked odd l u v))
 in_forked false l u v z (inl e) = inl e
-in_forked false l u v z (inr (inl i)) = inr (in_left z (leaders u) (leaders v) i)
-in_forked false l u v z (inr (inr i)) = inr (in_right z (leaders u) (leaders v) i)
+in_forked false l u v z (inr (inl i)) = inr (in_left z (lasts u) (lasts v) i)
+in_forked false l u v z (inr (inr i)) = inr (in_right z (lasts u) (lasts v) i)
 in_forked true l u v z (inl e) = inl e
-in_forked true l u v z (inr (inl i)) = inr (in_right z (leaders v) (leaders u) i)
-in_forked true l u v z (inr (inr i)) = inr (in_left z (leaders v) (leaders u) i)
+in_forked true l u v z (inr (inl i)) = inr (in_right z (lasts v) (lasts u) i)
+in_forked true l u v z (inr (inr i)) = inr (in_left z (lasts v) (lasts u) i)
 
 -- with what it begins
 pub top_forked : (odd : Bool) (l : ℕ) (u v : ClassTree) → top (forked odd l u v) ≡ Some l
@@ -115,11 +115,11 @@ top_forked false l u v = refl
 top_forked true l u v = refl
 
 -- how it is sorted
-pub forked_sorted : (f : ℕ → Option HeldCell) (d : ℕ) (odd : Bool) (l : ℕ) (u v : ClassTree) → IsSorted f d (forked odd l u v) → AreBeside f l d odd (leaders u) × AreBeside f l d (not odd) (leaders v) × IsSorted f (suc d) u × IsSorted f (suc d) v
+pub forked_sorted : (f : ℕ → Option HeldCell) (d : ℕ) (odd : Bool) (l : ℕ) (u v : ClassTree) → IsSorted f d (forked odd l u v) → AreBeside f l d odd (lasts u) × AreBeside f l d (not odd) (lasts v) × IsSorted f (suc d) u × IsSorted f (suc d) v
 forked_sorted f d false l u v s = s
 forked_sorted f d true l u v s = (s.1, s.0, s.3, s.2)
 
-pub sorted_forked : (f : ℕ → Option HeldCell) (d : ℕ) (odd : Bool) (l : ℕ) (u v : ClassTree) → AreBeside f l d odd (leaders u) × AreBeside f l d (not odd) (leaders v) × IsSorted f (suc d) u × IsSorted f (suc d) v → IsSorted f d (forked odd l u v)
+pub sorted_forked : (f : ℕ → Option HeldCell) (d : ℕ) (odd : Bool) (l : ℕ) (u v : ClassTree) → AreBeside f l d odd (lasts u) × AreBeside f l d (not odd) (lasts v) × IsSorted f (suc d) u × IsSorted f (suc d) v → IsSorted f d (forked odd l u v)
 sorted_forked f d false l u v s = s
 sorted_forked f d true l u v s = (s.1, s.0, s.3, s.2)
 
@@ -143,17 +143,17 @@ pub record Hole (f : ℕ → Option HeldCell) (test : ℕ → Bool) (h k d : ℕ
   pub outer : List ℕ
   pub fill : ClassTree → ClassTree
   pub is : fill w.tree ≡ t
-  pub parts : (u : ClassTree) (z : ℕ) → In z (leaders (fill u)) → In z outer ⊎ In z (leaders u)
-  pub outs : (u : ClassTree) (z : ℕ) → In z outer → In z (leaders (fill u))
-  pub ins : (u : ClassTree) (z : ℕ) → In z (leaders u) → In z (leaders (fill u))
+  pub parts : (u : ClassTree) (z : ℕ) → In z (lasts (fill u)) → In z outer ⊎ In z (lasts u)
+  pub outs : (u : ClassTree) (z : ℕ) → In z outer → In z (lasts (fill u))
+  pub ins : (u : ClassTree) (z : ℕ) → In z (lasts u) → In z (lasts (fill u))
   pub others : (z : ℕ) → In z outer → test z ≡ false
-  pub apart : (z : ℕ) → In z outer → In z (leaders w.tree) → ⊥
+  pub apart : (z : ℕ) → In z outer → In z (lasts w.tree) → ⊥
   pub holds : Holds h k outer w.holder w.link
   pub part : IsTree f (link_in f h k) t → IsTree f (link_in f w.holder w.link) w.tree
   pub sorted : IsSorted f w.depth w.tree
   pub turned : (g : ℕ → Option HeldCell) (u : ClassTree) → ((b : ℕ) → IsSome (f b) → IsSome (g b)) → ((b j : ℕ) → Holds h k outer b j → (b ≡ w.holder → j ≡ w.link → ⊥) → link_in g b j ≡ link_in f b j)
       → IsTree f (link_in f h k) t → IsTree g (link_in g w.holder w.link) u → IsTree g (link_in g h k) (fill u)
-  pub filled : (u : ClassTree) → IsSorted f w.depth u → ((z : ℕ) → In z (leaders u) → (test z ≡ true) ⊎ In z (leaders w.tree)) → IsSorted f d (fill u)
+  pub filled : (u : ClassTree) → IsSorted f w.depth u → ((z : ℕ) → In z (lasts u) → (test z ≡ true) ⊎ In z (lasts w.tree)) → IsSorted f d (fill u)
 
 -- the whole of it
 pub hole_here : (f : ℕ → Option HeldCell) (test : ℕ → Bool) (h k d : ℕ) (t : ClassTree) → IsSorted f d t → Hole f test h k d t (record { holder = h; link = k; depth = d; tree = t })
@@ -174,30 +174,30 @@ hole_here f test h k d t s = record {
 }
 
 -- one of its sides, near, is cut again; the other one, far, stays
-module _ (f : ℕ → Option HeldCell) (test : ℕ → Bool) (h k d l : ℕ) (odd : Bool) (near far : ClassTree) (w : ClassPlace) (s : IsSorted f d (forked odd l near far)) (no_h : In h (leaders (forked odd l near far)) → ⊥) where
-  sides : AreBeside f l d odd (leaders near) × AreBeside f l d (not odd) (leaders far) × IsSorted f (suc d) near × IsSorted f (suc d) far
+module _ (f : ℕ → Option HeldCell) (test : ℕ → Bool) (h k d l : ℕ) (odd : Bool) (near far : ClassTree) (w : ClassPlace) (s : IsSorted f d (forked odd l near far)) (no_h : In h (lasts (forked odd l near far)) → ⊥) where
+  sides : AreBeside f l d odd (lasts near) × AreBeside f l d (not odd) (lasts far) × IsSorted f (suc d) near × IsSorted f (suc d) far
   sides = forked_sorted f d odd l near far s
 
   pub hole_side : ((z : ℕ) → test z ≡ true → (is_key (key_in f z) (key_in f l) ≡ false) × (is_odd (rest_at (key_in f z).0 d) ≡ odd)) → Hole f test l (side odd) (suc d) near w → Hole f test h k d (forked odd l near far) w
   hole_side comes r = record {
-    outer = l ∷ (r.outer ++ leaders far);
+    outer = l ∷ (r.outer ++ lasts far);
     fill = λ u. forked odd l (r.fill u) far;
     is = ap (λ u. forked odd l u far) r.is;
     parts = λ u z i. elim (of_forked odd l (r.fill u) far z i) [
       | inl e ↦ inl (inl e)
-      | inr j ↦ elim j [ inl x ↦ elim (r.parts u z x) [ inl y ↦ inl (inr (in_left z r.outer (leaders far) y)) | inr y ↦ inr y ] | inr x ↦ inl (inr (in_right z r.outer (leaders far) x)) ]
+      | inr j ↦ elim j [ inl x ↦ elim (r.parts u z x) [ inl y ↦ inl (inr (in_left z r.outer (lasts far) y)) | inr y ↦ inr y ] | inr x ↦ inl (inr (in_right z r.outer (lasts far) x)) ]
     ];
-    outs = λ u z i. in_forked odd l (r.fill u) far z (elim i [ inl e ↦ inl e | inr j ↦ inr (elim (in_either z r.outer (leaders far) j) [ inl x ↦ inl (r.outs u z x) | inr x ↦ inr x ]) ]);
+    outs = λ u z i. in_forked odd l (r.fill u) far z (elim i [ inl e ↦ inl e | inr j ↦ inr (elim (in_either z r.outer (lasts far) j) [ inl x ↦ inl (r.outs u z x) | inr x ↦ inr x ]) ]);
     ins = λ u z i. in_forked odd l (r.fill u) far z (inr (inl (r.ins u z i)));
     others = λ z i. elim i [
       | inl e ↦ other z (λ t. let n : true ≡ false = sym (key_same (key_in f l)) ∙ ap (λ y. is_key (key_in f y) (key_in f l)) e ∙ (comes z t).0 in cc)
-      | inr j ↦ elim (in_either z r.outer (leaders far) j) [ inl x ↦ r.others z x | inr x ↦ other z (λ t. not_both odd (sym (comes z t).1 ∙ (sides.1 z x).1)) ]
+      | inr j ↦ elim (in_either z r.outer (lasts far) j) [ inl x ↦ r.others z x | inr x ↦ other z (λ t. not_both odd (sym (comes z t).1 ∙ (sides.1 z x).1)) ]
     ];
     apart = λ z i o. elim i [
-      | inl e ↦ not_near (subst (λ y. In y (leaders near)) (sym e) (near_part z o))
-      | inr j ↦ elim (in_either z r.outer (leaders far) j) [ inl x ↦ r.apart z x o | inr x ↦ both z (near_part z o) x ]
+      | inl e ↦ not_near (subst (λ y. In y (lasts near)) (sym e) (near_part z o))
+      | inr j ↦ elim (in_either z r.outer (lasts far) j) [ inl x ↦ r.apart z x o | inr x ↦ both z (near_part z o) x ]
     ];
-    holds = elim r.holds [ inl e ↦ inr (inl (sym e.0), side_is odd w.link e.1) | inr o ↦ inr (inr (in_left w.holder r.outer (leaders far) o.0), o.1) ];
+    holds = elim r.holds [ inl e ↦ inr (inl (sym e.0), side_is odd w.link e.1) | inr o ↦ inr (inr (in_left w.holder r.outer (lasts far) o.0), o.1) ];
     part = λ q. r.part (forked_tree f (link_in f h k) odd l near far q).2;
     sorted = r.sorted;
     turned = λ g u there away q v. turn g u there away (forked_tree f (link_in f h k) odd l near far q) v;
@@ -212,45 +212,45 @@ module _ (f : ℕ → Option HeldCell) (test : ℕ → Bool) (h k d l : ℕ) (od
       other : (z : ℕ) → (test z ≡ true → ⊥) → test z ≡ false
       other z n = elim (bool_cases (test z)) [ inl e ↦ absurd (n e) | inr e ↦ e ]
 
-      near_part : (z : ℕ) → In z (leaders w.tree) → In z (leaders near)
-      near_part z i = subst (λ u. In z (leaders u)) r.is (r.ins w.tree z i)
+      near_part : (z : ℕ) → In z (lasts w.tree) → In z (lasts near)
+      near_part z i = subst (λ u. In z (lasts u)) r.is (r.ins w.tree z i)
 
-      near_out : (z : ℕ) → In z r.outer → In z (leaders near)
-      near_out z i = subst (λ u. In z (leaders u)) r.is (r.outs w.tree z i)
+      near_out : (z : ℕ) → In z r.outer → In z (lasts near)
+      near_out z i = subst (λ u. In z (lasts u)) r.is (r.outs w.tree z i)
 
-      not_near : In l (leaders near) → ⊥
-      not_near i = beside_not f l d odd (leaders near) sides.0 i
+      not_near : In l (lasts near) → ⊥
+      not_near i = beside_not f l d odd (lasts near) sides.0 i
 
-      both : (z : ℕ) → In z (leaders near) → In z (leaders far) → ⊥
+      both : (z : ℕ) → In z (lasts near) → In z (lasts far) → ⊥
       both z i j = not_both odd (sym (sides.0 z i).1 ∙ (sides.1 z j).1)
 
       -- where the part hangs
-      holder_in : (l ≡ w.holder) ⊎ In w.holder (leaders near)
+      holder_in : (l ≡ w.holder) ⊎ In w.holder (lasts near)
       holder_in = elim r.holds [ inl e ↦ inl (sym e.0) | inr o ↦ inr (near_out w.holder o.0) ]
 
       top_away : h ≡ w.holder → ⊥
-      top_away e = no_h (in_forked odd l near far h (elim holder_in [ inl x ↦ inl (x ∙ sym e) | inr x ↦ inr (inl (subst (λ y. In y (leaders near)) (sym e) x)) ]))
+      top_away e = no_h (in_forked odd l near far h (elim holder_in [ inl x ↦ inl (x ∙ sym e) | inr x ↦ inr (inl (subst (λ y. In y (lasts near)) (sym e) x)) ]))
 
       side_away : l ≡ w.holder → side (not odd) ≡ w.link → ⊥
-      side_away e n = elim r.holds [ inl x ↦ sides_differ odd (n ∙ x.1) | inr o ↦ not_near (subst (λ y. In y (leaders near)) (sym e) (near_out w.holder o.0)) ]
+      side_away e n = elim r.holds [ inl x ↦ sides_differ odd (n ∙ x.1) | inr o ↦ not_near (subst (λ y. In y (lasts near)) (sym e) (near_out w.holder o.0)) ]
 
-      far_away : (z : ℕ) → In z (leaders far) → z ≡ w.holder → ⊥
+      far_away : (z : ℕ) → In z (lasts far) → z ≡ w.holder → ⊥
       far_away z i e = elim holder_in [
-        | inl x ↦ beside_not f l d (not odd) (leaders far) sides.1 (subst (λ y. In y (leaders far)) (e ∙ sym x) i)
-        | inr x ↦ both z (subst (λ y. In y (leaders near)) (sym e) x) i
+        | inl x ↦ beside_not f l d (not odd) (lasts far) sides.1 (subst (λ y. In y (lasts far)) (e ∙ sym x) i)
+        | inr x ↦ both z (subst (λ y. In y (lasts near)) (sym e) x) i
       ]
 
-      lift : (c j : ℕ) → Holds l (side odd) r.outer c j → Holds h k (l ∷ (r.outer ++ leaders far)) c j
-      lift c j o = elim o [ inl e ↦ inr (inl (sym e.0), side_is odd j e.1) | inr i ↦ inr (inr (in_left c r.outer (leaders far) i.0), i.1) ]
+      lift : (c j : ℕ) → Holds l (side odd) r.outer c j → Holds h k (l ∷ (r.outer ++ lasts far)) c j
+      lift c j o = elim o [ inl e ↦ inr (inl (sym e.0), side_is odd j e.1) | inr i ↦ inr (inr (in_left c r.outer (lasts far) i.0), i.1) ]
 
-      turn : (g : ℕ → Option HeldCell) (u : ClassTree) → ((c : ℕ) → IsSome (f c) → IsSome (g c)) → ((c j : ℕ) → Holds h k (l ∷ (r.outer ++ leaders far)) c j → (c ≡ w.holder → j ≡ w.link → ⊥) → link_in g c j ≡ link_in f c j)
+      turn : (g : ℕ → Option HeldCell) (u : ClassTree) → ((c : ℕ) → IsSome (f c) → IsSome (g c)) → ((c j : ℕ) → Holds h k (l ∷ (r.outer ++ lasts far)) c j → (c ≡ w.holder → j ≡ w.link → ⊥) → link_in g c j ≡ link_in f c j)
           → (link_in f h k ≡ Some l) × IsSome (f l) × IsTree f (link_in f l (side odd)) near × IsTree f (link_in f l (side (not odd))) far → IsTree g (link_in g w.holder w.link) u → IsTree g (link_in g h k) (forked odd l (r.fill u) far)
       turn g u there away q v = tree_forked g (link_in g h k) odd l (r.fill u) far (
         away h k (inl (refl, refl)) (λ e _. top_away e) ∙ q.0,
         there l q.1,
         r.turned g u there (λ c j o n. away c j (lift c j o) n) q.2 v,
         subst (λ o. IsTree g o far) (sym (away l (side (not odd)) (inr (inl refl, side_is (not odd) (side (not odd)) refl)) side_away))
-            (tree_frame f g (link_in f l (side (not odd))) far (λ z i. (away z EVEN (inr (inr (in_right z r.outer (leaders far) i), inl refl)) (λ e _. far_away z i e), away z ODD (inr (inr (in_right z r.outer (leaders far) i), inr refl)) (λ e _. far_away z i e))) there q.3),
+            (tree_frame f g (link_in f l (side (not odd))) far (λ z i. (away z EVEN (inr (inr (in_right z r.outer (lasts far) i), inl refl)) (λ e _. far_away z i e), away z ODD (inr (inr (in_right z r.outer (lasts far) i), inr refl)) (λ e _. far_away z i e))) there q.3),
       )
 
 -- Where a class is looked for
@@ -260,10 +260,10 @@ pub record Placed (f : ℕ → Option HeldCell) (p : ℕ × ℕ) (h k d : ℕ) (
   pub hole : Hole f (λ z. is_key (key_in f z) p) h k d t w
   pub own : (l : ℕ) → top w.tree ≡ Some l → is_key (key_in f l) p ≡ true
 
-pub placed : (f : ℕ → Option HeldCell) (p : ℕ × ℕ) (h k d : ℕ) (t : ClassTree) → IsSorted f d t → (In h (leaders t) → ⊥) → Placed f p h k d t (class_place f p h k d t)
+pub placed : (f : ℕ → Option HeldCell) (p : ℕ × ℕ) (h k d : ℕ) (t : ClassTree) → IsSorted f d t → (In h (lasts t) → ⊥) → Placed f p h k d t (class_place f p h k d t)
 placed f p h k d Bare s no_h = record { hole = hole_here f (λ z. is_key (key_in f z) p) h k d Bare s; own = λ l e. absurd cc }
 placed f p h k d (Fork l a b) s no_h =
-    by (is_key (key_in f l) p) refl (is_odd (rest_at p.0 d)) refl (placed f p l EVEN (suc d) a s.2 (beside_not f l d false (leaders a) s.0)) (placed f p l ODD (suc d) b s.3 (beside_not f l d true (leaders b) s.1))
+    by (is_key (key_in f l) p) refl (is_odd (rest_at p.0 d)) refl (placed f p l EVEN (suc d) a s.2 (beside_not f l d false (lasts a) s.0)) (placed f p l ODD (suc d) b s.3 (beside_not f l d true (lasts b) s.1))
   where
     comes : (odd : Bool) → is_key (key_in f l) p ≡ false → is_odd (rest_at p.0 d) ≡ odd → (z : ℕ) → is_key (key_in f z) p ≡ true → (is_key (key_in f z) (key_in f l) ≡ false) × (is_odd (rest_at (key_in f z).0 d) ≡ odd)
     comes odd n o z e =
@@ -285,14 +285,14 @@ pub record Lowest (f : ℕ → Option HeldCell) (h k d : ℕ) (t : ClassTree) (l
   pub place : ClassPlace
   pub hole : Hole f (λ z. false) h k d t place
   pub alone : place.tree ≡ Fork l Bare Bare
-  pub is : at ≡ record { holder = place.holder; link = place.link; leader = Some l }
+  pub is : at ≡ record { holder = place.holder; link = place.link; last = Some l }
 
-pub some_lowest : (f : ℕ → Option HeldCell) (h k d : ℕ) (t : ClassTree) → IsSorted f d t → (In h (leaders t) → ⊥) → (r : ℕ) → top t ≡ Some r → (l : ℕ) × Lowest f h k d t l (lowest h k t)
+pub some_lowest : (f : ℕ → Option HeldCell) (h k d : ℕ) (t : ClassTree) → IsSorted f d t → (In h (lasts t) → ⊥) → (r : ℕ) → top t ≡ Some r → (l : ℕ) × Lowest f h k d t l (lowest h k t)
 some_lowest f h k d Bare s no_h r e = absurd cc
 some_lowest f h k d (Fork r Bare Bare) s no_h z e = (r, record { place = record { holder = h; link = k; depth = d; tree = Fork r Bare Bare }; hole = hole_here f (λ z. false) h k d (Fork r Bare Bare) s; alone = refl; is = refl })
 some_lowest f h k d (Fork r Bare (Fork q u v)) s no_h z e =
-    let w = some_lowest f r ODD (suc d) (Fork q u v) s.3 (beside_not f r d true (leaders (Fork q u v)) s.1) q refl in
+    let w = some_lowest f r ODD (suc d) (Fork q u v) s.3 (beside_not f r d true (lasts (Fork q u v)) s.1) q refl in
     (w.0, record { place = w.1.place; hole = hole_side f (λ z. false) h k d r true (Fork q u v) Bare w.1.place s no_h (λ z e. absurd cc) w.1.hole; alone = w.1.alone; is = w.1.is })
 some_lowest f h k d (Fork r (Fork q u v) b) s no_h z e =
-    let w = some_lowest f r EVEN (suc d) (Fork q u v) s.2 (beside_not f r d false (leaders (Fork q u v)) s.0) q refl in
+    let w = some_lowest f r EVEN (suc d) (Fork q u v) s.2 (beside_not f r d false (lasts (Fork q u v)) s.0) q refl in
     (w.0, record { place = w.1.place; hole = hole_side f (λ z. false) h k d r false (Fork q u v) b w.1.place s no_h (λ z e. absurd cc) w.1.hole; alone = w.1.alone; is = w.1.is })

@@ -155,7 +155,7 @@ pub record Emptied (f h : ℕ → Option HeldCell) (m : ℕ) (xs : List ℕ) : T
   pub links : (b k : ℕ) → (In b xs → ⊥) → (b ≡ m → IsOther k) → link_in h b k ≡ link_in f b k
   pub first : link_in h m 3 ≡ None
   pub last : link_in h m 4 ≡ None
-  pub leaders : link_in h m LEADERS ≡ None
+  pub lasts : link_in h m LEADERS ≡ None
   pub count : number_in h m 6 ≡ 0
 
 -- what the two steps leave
@@ -175,7 +175,7 @@ emptied f g m xs out w = record {
   ] ∙ ap (λ (o : Option HeldCell). get_or (links_of o) k None) (w.others b n);
   first = ap (λ (o : Option HeldCell). get_or (links_of o) 3 None) (alter_at g m (option_map bare_atoms)) ∙ bare_first (g m);
   last = ap (λ (o : Option HeldCell). get_or (links_of o) 4 None) (alter_at g m (option_map bare_atoms)) ∙ bare_last (g m);
-  leaders = ap (λ (o : Option HeldCell). get_or (links_of o) LEADERS None) (alter_at g m (option_map bare_atoms)) ∙ bare_leaders (g m);
+  lasts = ap (λ (o : Option HeldCell). get_or (links_of o) LEADERS None) (alter_at g m (option_map bare_atoms)) ∙ bare_leaders (g m);
   count = ap (λ (o : Option HeldCell). get_or (numbers_of o) 6 0) (alter_at g m (option_map bare_atoms)) ∙ bare_count (g m);
 }
 
@@ -380,4 +380,4 @@ module _ (f h : ℕ → Option HeldCell) (made : ℕ) (W : IsWeb f made) (m : �
     }
       where
         none : AreClassed h m [] Bare
-        none = record { tree = e.leaders; sorted = tt; inside = λ l i. i; every = λ x i. absurd i; rings = λ l i. absurd i; inner = λ x i. absurd i }
+        none = record { tree = e.lasts; sorted = tt; inside = λ l i. i; every = λ x i. absurd i; rings = λ l i. absurd i; inner = λ x i. absurd i }

@@ -18,7 +18,7 @@ use Rattle.lmn_web.specs.Kinds.{FILED, kind_by}
 use Rattle.lmn_web.specs.Webs.{FilesNone, label_by, label_class, list_in, list_link, count_number, number_in, web_cell, web_label, web_of}
 use Rattle.lmn_web_cells.specs.Numbers.{ARITY, KIND, HIGH, LOW}
 use Rattle.lmn_web.specs.Indexes.{described, blank_by, numbers_by, cell_kind, IsListed, IsWeb, IsClassed, IsClassedWeb}
-use Rattle.lmn_web.specs.Classes.{AllButLinks, ClassTree, Bare, IsTree, files, leaders, class_node, key_in, is_key, of_class, IsRing, AreClassed, MayFile, MayEnter, MayLeave, ClassBecomes, Touches, Refiled, FiledAs, put_at}
+use Rattle.lmn_web.specs.Classes.{AllButLinks, ClassTree, Bare, IsTree, files, lasts, class_node, key_in, is_key, of_class, IsRing, AreClassed, MayFile, MayEnter, MayLeave, ClassBecomes, Touches, Refiled, FiledAs, put_at}
 use Rattle.lmn_web.proofs.ListedLemmas.{same_lists, lists_same, cell_of}
 use Rattle.lmn_web.proofs.WebLemmas.{Told, told, made_web, made_lists, no_list}
 use Rattle.lmn_web.proofs.RelistLemmas.{Core, Relists, relists_web, in_none, new, new_lists, each, kind_is, there, m_there, core_of, back, core_rest}
@@ -84,7 +84,7 @@ module _ (f g : ℕ → Option HeldCell) (m : ℕ) (xs : List ℕ) (t : ClassTre
   }
     where
       -- a cell of a class is one of the membrane
-      class_in : (l : ℕ) → In l (leaders t) → (z : ℕ) → In z (l ∷ of_class f (key_in f l) xs) → In z xs
+      class_in : (l : ℕ) → In l (lasts t) → (z : ℕ) → In z (l ∷ of_class f (key_in f l) xs) → In z xs
       class_in l i z (inl e) = subst (λ u. In u xs) e (c.inside l i)
       class_in l i z (inr j) = (in_filter (λ a. is_key (key_in f a) (key_in f l)) z xs j).0
 

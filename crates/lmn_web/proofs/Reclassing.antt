@@ -7,7 +7,7 @@ use Rattle.lmn_base.proofs.Truth.{bool_cases, and_true}
 use Rattle.lmn_store_heap.proofs.ListLemmas.{in_left, in_right}
 use Rattle.lmn_web_cells.specs.Cells.{HeldCell}
 use Rattle.lmn_web_cells.specs.Runs.{link_in}
-use Rattle.lmn_web.specs.Classes.{ClassTree, Bare, Fork, leaders, IsTree, AreBeside, IsSorted, rest_at, is_odd, class_node, key_in, is_key, of_class, IsRing, AreClassed}
+use Rattle.lmn_web.specs.Classes.{ClassTree, Bare, Fork, lasts, IsTree, AreBeside, IsSorted, rest_at, is_odd, class_node, key_in, is_key, of_class, IsRing, AreClassed}
 use Rattle.lmn_web_cells.specs.Links.{EVEN, LEADERS}
 use Rattle.lmn_web.proofs.Rings.{linked_frame, ring_last}
 use Rattle.lmn_store_heap.proofs.Filters.{in_filter, filter_in}
@@ -27,13 +27,13 @@ pub nothing_in : (xs : List ℕ) → xs ≡ [] → (z : ℕ) → In z xs → ⊥
 nothing_in xs e z i = subst (λ us. In z us) e i
 
 -- a tree is sorted by the classes of its cells
-pub sorted_keys : (f g : ℕ → Option HeldCell) (d : ℕ) (t : ClassTree) → ((b : ℕ) → In b (leaders t) → key_in g b ≡ key_in f b) → IsSorted f d t → IsSorted g d t
+pub sorted_keys : (f g : ℕ → Option HeldCell) (d : ℕ) (t : ClassTree) → ((b : ℕ) → In b (lasts t) → key_in g b ≡ key_in f b) → IsSorted f d t → IsSorted g d t
 sorted_keys f g d Bare keys s = tt
 sorted_keys f g d (Fork l a b) keys s = (
-  beside false (leaders a) (λ k i. keys k (inr (in_left k (leaders a) (leaders b) i))) s.0,
-  beside true (leaders b) (λ k i. keys k (inr (in_right k (leaders a) (leaders b) i))) s.1,
-  sorted_keys f g (suc d) a (λ k i. keys k (inr (in_left k (leaders a) (leaders b) i))) s.2,
-  sorted_keys f g (suc d) b (λ k i. keys k (inr (in_right k (leaders a) (leaders b) i))) s.3,
+  beside false (lasts a) (λ k i. keys k (inr (in_left k (lasts a) (lasts b) i))) s.0,
+  beside true (lasts b) (λ k i. keys k (inr (in_right k (lasts a) (lasts b) i))) s.1,
+  sorted_keys f g (suc d) a (λ k i. keys k (inr (in_left k (lasts a) (lasts b) i))) s.2,
+  sorted_keys f g (suc d) b (λ k i. keys k (inr (in_right k (lasts a) (lasts b) i))) s.3,
 )
   where
     beside : (odd : Bool) (ks : List ℕ) → ((k : ℕ) → In k ks → key_in g k ≡ key_in f k) → AreBeside f l d odd ks → AreBeside g l d odd ks
@@ -46,14 +46,14 @@ pub record Reclasses (f g : ℕ → Option HeldCell) (m : ℕ) (xs : List ℕ) (
   pub nodes : (z : ℕ) → In z xs → is_key (key_in f z) p ≡ false → class_node g z ≡ class_node f z
   pub tree : IsTree g (link_in g m LEADERS) t'
   pub sorted : IsSorted f 0 t'
-  pub stay : (l : ℕ) → In l (leaders t) → is_key (key_in f l) p ≡ false → In l (leaders t')
-  pub were : (l : ℕ) → In l (leaders t') → is_key (key_in f l) p ≡ false → In l (leaders t)
-  pub heads : (l : ℕ) → In l (leaders t') → is_key (key_in f l) p ≡ true → h ≡ Some l
-  pub headed : (l : ℕ) → h ≡ Some l → In l (leaders t') × (is_key (key_in f l) p ≡ true)
+  pub stay : (l : ℕ) → In l (lasts t) → is_key (key_in f l) p ≡ false → In l (lasts t')
+  pub were : (l : ℕ) → In l (lasts t') → is_key (key_in f l) p ≡ false → In l (lasts t)
+  pub ends : (l : ℕ) → In l (lasts t') → is_key (key_in f l) p ≡ true → h ≡ Some l
+  pub ended : (l : ℕ) → h ≡ Some l → In l (lasts t') × (is_key (key_in f l) p ≡ true)
   pub ring : (l : ℕ) → h ≡ Some l → IsRing g l (of_class f p xs')
   pub none : h ≡ None → of_class f p xs' ≡ []
-  pub kept : (z : ℕ) → is_key (key_in f z) p ≡ false → (In z (leaders t) → ⊥) → link_in g z EVEN ≡ link_in f z EVEN
-  pub inner : (z : ℕ) → In z (of_class f p xs') → (In z (leaders t') → ⊥) → link_in g z EVEN ≡ Some m
+  pub kept : (z : ℕ) → is_key (key_in f z) p ≡ false → (In z (lasts t) → ⊥) → link_in g z EVEN ≡ link_in f z EVEN
+  pub inner : (z : ℕ) → In z (of_class f p xs') → (In z (lasts t') → ⊥) → link_in g z EVEN ≡ Some m
 
 module _ (f g : ℕ → Option HeldCell) (m : ℕ) (xs : List ℕ) (t : ClassTree) (old : AreClassed f m xs t) (p : ℕ × ℕ) (xs' : List ℕ) (t' : ClassTree) (h : Option ℕ) (r : Reclasses f g m xs t p xs' t' h) where
   keys_path : ◌≡◌ {A = ℕ → ℕ × ℕ} (λ b. key_in f b) (λ b. key_in g b)
@@ -70,9 +70,9 @@ module _ (f g : ℕ → Option HeldCell) (m : ℕ) (xs : List ℕ) (t : ClassTre
   was_in : (x : ℕ) → In x xs' → is_key (key_in f x) p ≡ false → In x xs
   was_in x i e = (in_filter (λ a. is_key (key_in f a) (key_in f x)) x xs (subst (λ us. In x us) (r.lists (key_in f x) e) (filter_in (λ a. is_key (key_in f a) (key_in f x)) x xs' i (key_same (key_in f x))))).0
 
-  ring_of : (l : ℕ) → In l (leaders t') → IsRing g l (of_class f (key_in f l) xs')
+  ring_of : (l : ℕ) → In l (lasts t') → IsRing g l (of_class f (key_in f l) xs')
   ring_of l i = elim (bool_cases (is_key (key_in f l) p)) [
-    | inl e ↦ subst (λ q. IsRing g l (of_class f q xs')) (sym (own_class l e)) (r.ring l (r.heads l i e))
+    | inl e ↦ subst (λ q. IsRing g l (of_class f q xs')) (sym (own_class l e)) (r.ring l (r.ends l i e))
     | inr e ↦ (let q = key_in f l in let ring : IsRing f l (of_class f q xs) = old.rings l (r.were l i e) in
         subst (λ us. IsRing g l us) (sym (r.lists q e)) (linked_frame (class_node f) (class_node g) l (of_class f q xs) (λ z k. same z l e (elim k [ inl s ↦ subst (λ y. In y (of_class f q xs)) s (ring_last l (of_class f q xs) ring.1 ring.2) | inr j ↦ j ])) ring.0, ring.1, ring.2))
   ]
@@ -93,10 +93,10 @@ module _ (f g : ℕ → Option HeldCell) (m : ℕ) (xs : List ℕ) (t : ClassTre
     rings = λ l i. subst (λ q. IsRing g l (of_class g q xs')) (sym (r.keys l)) (subst (λ us. IsRing g l us) (sym (class_same (key_in f l))) (ring_of l i));
     inner = λ x i n. elim (bool_cases (is_key (key_in f x) p)) [
       | inl e ↦ r.inner x (filter_in (λ a. is_key (key_in f a) p) x xs' i e) n
-      | inr e ↦ (let out : In x (leaders t) → ⊥ = (λ j. n (r.stay x j e)) in r.kept x e out ∙ old.inner x (was_in x i e) out)
+      | inr e ↦ (let out : In x (lasts t) → ⊥ = (λ j. n (r.stay x j e)) in r.kept x e out ∙ old.inner x (was_in x i e) out)
     ];
   }
     where
-      head : (x : ℕ) → In x xs' → is_key (key_in f x) p ≡ true → (o : Option ℕ) → h ≡ o → (l : ℕ) × In l (leaders t') × (key_in g l ≡ key_in g x)
+      head : (x : ℕ) → In x xs' → is_key (key_in f x) p ≡ true → (o : Option ℕ) → h ≡ o → (l : ℕ) × In l (lasts t') × (key_in g l ≡ key_in g x)
       head x i s None e = absurd (nothing_in (of_class f p xs') (r.none e) x (filter_in (λ a. is_key (key_in f a) p) x xs' i s))
-      head x i s (Some l) e = let w = r.headed l e in (l, w.0, r.keys l ∙ own_class l w.1 ∙ sym (own_class x s) ∙ sym (r.keys x))
+      head x i s (Some l) e = let w = r.ended l e in (l, w.0, r.keys l ∙ own_class l w.1 ∙ sym (own_class x s) ∙ sym (r.keys x))

@@ -145,11 +145,11 @@ module _ (h g : ℕ → Node) (p d x : ℕ) (r : PutsBetween h g p d x) (to : (h
 
   -- or is the last one, where d is the first
   pub put_last : (ys : List ℕ) → (In x (ys ++ p ∷ []) → ⊥) → Distinct (ys ++ p ∷ []) → Linked h p (ys ++ p ∷ []) → Linked g x ((ys ++ p ∷ []) ++ x ∷ [])
-  put_last ys fresh once k = linked_end g x ys p x (lead (ys ++ p ∷ []) fresh once k) r.before r.own_prev
+  put_last ys fresh once k = linked_end g x ys p x (hung (ys ++ p ∷ []) fresh once k) r.before r.own_prev
     where
-      lead : (zs : List ℕ) → (In x zs → ⊥) → Distinct zs → Linked h p zs → Linked g x zs
-      lead [] new one q = tt
-      lead (z ∷ zs) new one q =
+      hung : (zs : List ℕ) → (In x zs → ⊥) → Distinct zs → Linked h p zs → Linked g x zs
+      hung [] new one q = tt
+      hung (z ∷ zs) new one q =
           let s = same_cell (h p).next d z to q.0 in (
             r.own_next ∙ ap Some s,
             subst (λ w. (g w).prev ≡ Some x) s r.behind,

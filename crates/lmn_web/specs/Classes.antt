@@ -39,9 +39,9 @@ pub data ClassTree : Type 0 where
   Bare : ClassTree
   Fork : ℕ → ClassTree → ClassTree → ClassTree
 
-abbrev pub leaders : ClassTree → List ℕ
-leaders Bare = []
-leaders (Fork l a b) = l ∷ (leaders a ++ leaders b)
+abbrev pub lasts : ClassTree → List ℕ
+lasts Bare = []
+lasts (Fork l a b) = l ∷ (lasts a ++ lasts b)
 
 abbrev pub top : ClassTree → Option ℕ
 top Bare = None
@@ -68,7 +68,7 @@ AreBeside f l d odd ks = (k : ℕ) → In k ks → (is_key (key_in f k) (key_in 
 -- no class stands twice in a tree, and each on the sides to which it goes
 abbrev pub IsSorted : (ℕ → Option HeldCell) → ℕ → ClassTree → Type 0
 IsSorted f d Bare = Unit {0}
-IsSorted f d (Fork l a b) = AreBeside f l d false (leaders a) × AreBeside f l d true (leaders b) × IsSorted f (suc d) a × IsSorted f (suc d) b
+IsSorted f d (Fork l a b) = AreBeside f l d false (lasts a) × AreBeside f l d true (lasts b) × IsSorted f (suc d) a × IsSorted f (suc d) b
 
 -- each of zs is linked both ways with the one before it, and the first one with l
 abbrev pub Linked : (ℕ → Node) → ℕ → List ℕ → Type 0
@@ -83,10 +83,10 @@ IsRing f l zs = Linked (class_node f) l zs × (ys : List ℕ) × (zs ≡ ys ++ l
 pub record AreClassed (f : ℕ → Option HeldCell) (m : ℕ) (xs : List ℕ) (t : ClassTree) : Type 0 where
   pub tree : IsTree f (link_in f m LEADERS) t
   pub sorted : IsSorted f 0 t
-  pub inside : (l : ℕ) → In l (leaders t) → In l xs
-  pub every : (x : ℕ) → In x xs → (l : ℕ) × In l (leaders t) × (key_in f l ≡ key_in f x)
-  pub rings : (l : ℕ) → In l (leaders t) → IsRing f l (of_class f (key_in f l) xs)
-  pub inner : (x : ℕ) → In x xs → (In x (leaders t) → ⊥) → link_in f x EVEN ≡ Some m
+  pub inside : (l : ℕ) → In l (lasts t) → In l xs
+  pub every : (x : ℕ) → In x xs → (l : ℕ) × In l (lasts t) × (key_in f l ≡ key_in f x)
+  pub rings : (l : ℕ) → In l (lasts t) → IsRing f l (of_class f (key_in f l) xs)
+  pub inner : (x : ℕ) → In x xs → (In x (lasts t) → ⊥) → link_in f x EVEN ≡ Some m
 
 -- where a class stands or is missing: the cell and the link at which it hangs, the depth, and the tree from there on
 pub record ClassPlace : Type 0 where
@@ -109,12 +109,12 @@ place_in f p m t = class_place f p m LEADERS 0 t
 pub record Hung : Type 0 where
   pub holder : ℕ
   pub link : ℕ
-  pub leader : Option ℕ
+  pub last : Option ℕ
 
 -- one of a tree with none below it
 abbrev pub lowest : ℕ → ℕ → ClassTree → Hung
-lowest h k Bare = record { holder = h; link = k; leader = None }
-lowest h k (Fork l Bare Bare) = record { holder = h; link = k; leader = Some l }
+lowest h k Bare = record { holder = h; link = k; last = None }
+lowest h k (Fork l Bare Bare) = record { holder = h; link = k; last = Some l }
 lowest h k (Fork l Bare (Fork r x y)) = lowest l ODD (Fork r x y)
 lowest h k (Fork l (Fork r x y) b) = lowest l EVEN (Fork r x y)
 
@@ -157,7 +157,7 @@ closed f p n = link_written (link_written f p CLASS_NEXT (Some n)) n CLASS_PREV 
 abbrev pub shortened : (ℕ → Option HeldCell) → ℕ → ℕ → ℕ → ℕ → ℕ → ℕ → Option HeldCell
 shortened f h k c p n = taken_over (closed f p n) h k c p
 
--- the class of c is gone, and a leader that hung at link j of a, if there is one, hangs in its place
+-- the class of c is gone, and a last one that hung at link j of a, if there is one, hangs in its place
 abbrev pub dropped : (ℕ → Option HeldCell) → ℕ → ℕ → ℕ → ℕ → ℕ → Option ℕ → ℕ → Option HeldCell
 dropped f h k c a j None = link_written f h k None
 dropped f h k c a j (Some l) = taken_over (link_written f a j None) h k c l

@@ -25,7 +25,7 @@ struct Place {
     // The word of the link.
     word: usize,
     // None where nothing hangs.
-    leader: Option<Cell>,
+    last: Option<Cell>,
 }
 
 /// Whether what comes into the list of a kind of a membrane is filed: an atom is, unless the membrane files none.
@@ -61,7 +61,7 @@ fn find(cells: &Cells, m: Cell, high: u64, arity: u64) -> Place
     requires tree { (t : ClassTree) × IsTree (cells_by cells.now) (link_in (cells_by cells.now) (cell_id m) LEADERS) t × IsSorted (cells_by cells.now) 0 t }
     ensures word { (result.word < 7) ⊎ (result.word ≡ LEADERS_WORD) }
     ensures place { (t : ClassTree) → IsTree (cells_by cells.now) (link_in (cells_by cells.now) (cell_id m) LEADERS) t →
-        let w = place_in (cells_by cells.now) (high, arity) (cell_id m) t in (cell_id result.holder ≡ w.holder) × (link_of result.word ≡ w.link) × (option_map cell_id result.leader ≡ top w.tree) }
+        let w = place_in (cells_by cells.now) (high, arity) (cell_id m) t in (cell_id result.holder ≡ w.holder) × (link_of result.word ≡ w.link) × (option_map cell_id result.last ≡ top w.tree) }
 {
     let mut holder = m;
     let mut word = LEADERS_WORD;
@@ -72,7 +72,7 @@ fn find(cells: &Cells, m: Cell, high: u64, arity: u64) -> Place
             return Place {
                 holder,
                 word,
-                leader: Some(c),
+                last: Some(c),
             };
         }
         holder = c;
@@ -83,12 +83,12 @@ fn find(cells: &Cells, m: Cell, high: u64, arity: u64) -> Place
     Place {
         holder,
         word,
-        leader: None,
+        last: None,
     }
 }
 
 // The last atom of a class of a membrane that files, without the place at which it hangs.
-fn leader_of(cells: &Cells, m: Cell, high: u64, arity: u64) -> Option<Cell>
+fn last_of(cells: &Cells, m: Cell, high: u64, arity: u64) -> Option<Cell>
     requires there { IsSome (cells_by cells.now (cell_id m)) }
     requires membrane { length (numbers_of (cells_by cells.now (cell_id m))) ≡ 8 }
     requires tree { (t : ClassTree) × IsTree (cells_by cells.now) (link_in (cells_by cells.now) (cell_id m) LEADERS) t × IsSorted (cells_by cells.now) 0 t }
@@ -112,20 +112,20 @@ fn below(cells: &Cells, c: Cell) -> Place
     requires there { IsSome (cells_by cells.now (cell_id c)) }
     ensures holder { result.holder ≡ c }
     ensures word { result.word ≡ (if is_some (link_in (cells_by cells.now) (cell_id c) EVEN) then EVEN else ODD) }
-    ensures leader { option_map cell_id result.leader ≡ link_in (cells_by cells.now) (cell_id c) result.word }
+    ensures last { option_map cell_id result.last ≡ link_in (cells_by cells.now) (cell_id c) result.word }
 {
     let even = cells.link(c, EVEN);
     if even.is_some() {
         Place {
             holder: c,
             word: EVEN,
-            leader: even,
+            last: even,
         }
     } else {
         Place {
             holder: c,
             word: ODD,
-            leader: cells.link(c, ODD),
+            last: cells.link(c, ODD),
         }
     }
 }
@@ -136,11 +136,11 @@ fn lowest(cells: &Cells, c: Cell) -> Place
     requires tree { (a b : ClassTree) × IsTree (cells_by cells.now) (link_in (cells_by cells.now) (cell_id c) EVEN) a × IsTree (cells_by cells.now) (link_in (cells_by cells.now) (cell_id c) ODD) b
         × (d : ℕ) × IsSorted (cells_by cells.now) d a × IsSorted (cells_by cells.now) d b }
     ensures { (a b : ClassTree) → IsTree (cells_by cells.now) (link_in (cells_by cells.now) (cell_id c) EVEN) a → IsTree (cells_by cells.now) (link_in (cells_by cells.now) (cell_id c) ODD) b →
-        let w = lowest_below (cell_id c) a b in (cell_id result.holder ≡ w.holder) × (result.word ≡ w.link) × (option_map cell_id result.leader ≡ w.leader) }
+        let w = lowest_below (cell_id c) a b in (cell_id result.holder ≡ w.holder) × (result.word ≡ w.link) × (option_map cell_id result.last ≡ w.last) }
 {
     let mut place = below(cells, c);
     let mut next = place;
-    while let Some(d) = next.leader {
+    while let Some(d) = next.last {
         place = next;
         next = below(cells, d);
     }
@@ -186,7 +186,7 @@ pub fn first_in(cells: &Cells, m: Cell, high: u64, arity: u64) -> Option<Cell>
     ensures { let f = cells_by cells.now in let own = of_class f (high, arity) (list_in f (cell_id m) Atom) in from (option_map cell_id result) own ≡ own }
 {
     if is_filed(cells, m, CellKind::Atom) {
-        match leader_of(cells, m, high, arity) {
+        match last_of(cells, m, high, arity) {
             None => None,
             Some(last) => cells.link(last, CLASS_NEXT),
         }
@@ -341,10 +341,10 @@ fn drop_class(cells: &mut Cells, holder: Cell, word: usize, c: Cell, leaf: Place
     requires holder { IsSome (cells_by cells.old (cell_id holder)) }
     requires word { IsLinkWord (cells_by cells.old (cell_id holder)) word }
     requires c { IsSome (cells_by cells.old (cell_id c)) }
-    requires leaf { IfSome leaf.leader (λ l. IsSome (cells_by cells.old (cell_id l)) × IsSome (cells_by cells.old (cell_id leaf.holder)) × (leaf.word < 7)) }
-    ensures { cells_by cells.new ≡ dropped (cells_by cells.old) (cell_id holder) (link_of word) (cell_id c) (cell_id leaf.holder) leaf.word (option_map cell_id leaf.leader) }
+    requires leaf { IfSome leaf.last (λ l. IsSome (cells_by cells.old (cell_id l)) × IsSome (cells_by cells.old (cell_id leaf.holder)) × (leaf.word < 7)) }
+    ensures { cells_by cells.new ≡ dropped (cells_by cells.old) (cell_id holder) (link_of word) (cell_id c) (cell_id leaf.holder) leaf.word (option_map cell_id leaf.last) }
 {
-    match leaf.leader {
+    match leaf.last {
         None => cells.set_link_in(holder, word, None),
         Some(l) => {
             cells.set_link(leaf.holder, leaf.word, None);
@@ -362,7 +362,7 @@ pub fn file_last(cells: &mut Cells, m: Cell, c: Cell)
     let high = cells.number(c, HIGH);
     let arity = cells.number(c, ARITY);
     let found = find(cells, m, high, arity);
-    match found.leader {
+    match found.last {
         None => begin(cells, found.holder, found.word, c),
         Some(last) => {
             if let Some(first) = cells.link(last, CLASS_NEXT) {

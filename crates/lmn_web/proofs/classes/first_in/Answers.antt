@@ -9,13 +9,13 @@ use Rattle.lmn_web_cells.specs.Runs.{link_in}
 use Rattle.lmn_web.specs.declared.kind.CellKind.TheVariants.{Atom}
 use Rattle.lmn_web.specs.Webs.{list_in}
 use Rattle.lmn_web.specs.Classes.{of_class, place_in, top}
-use Rattle.lmn_web.proofs.ClassPlaces.{class_none, leader_in}
+use Rattle.lmn_web.proofs.ClassPlaces.{class_none, last_in}
 use Rattle.lmn_web.proofs.ListedLemmas.{begins_list, from_in, if_some}
 use Rattle.lmn_web.proofs.ClassReads.{class_begins}
 use Rattle.lmn_web.proofs.classes.first_in.Goals as goal
 
-pub leader_of-requires-clause-tree : goal.leader_of-requires-clause-tree
-leader_of-requires-clause-tree c =
+pub last_of-requires-clause-tree : goal.last_of-requires-clause-tree
+last_of-requires-clause-tree c =
     let o = c.requires.classes (sym c.is_filed.ensures ∙ c.if-is_filed.true) in (o.0, o.1.tree, o.1.sorted)
 
 pub link-requires-clause-there : goal.link-requires-clause-there
@@ -24,15 +24,15 @@ link-requires-clause-there c =
     let o = c.requires.classes (sym c.is_filed.ensures ∙ c.if-is_filed.true) in
     let l = cell_id c.in-Some.last in
     let no_m : In m (list_in f m Atom) → ⊥ = λ i. (each_in _ _ m c.requires.line.cells i).1 refl in
-    let found : top (place_in f p m o.0).tree ≡ Some l = sym (c.leader_of.ensures o.0 o.1.tree) ∙ ap (option_map cell_id) c.in-Some.is in
-    (each_in _ _ l c.requires.line.cells (o.1.inside l (leader_in f m (list_in f m Atom) o.0 o.1 no_m p l found).0)).0
+    let found : top (place_in f p m o.0).tree ≡ Some l = sym (c.last_of.ensures o.0 o.1.tree) ∙ ap (option_map cell_id) c.in-Some.is in
+    (each_in _ _ l c.requires.line.cells (o.1.inside l (last_in f m (list_in f m Atom) o.0 o.1 no_m p l found).0)).0
 
 pub returns-in-None : goal.returns-in-None
 returns-in-None c =
     let f = cells_by c.args.cells.now in let m = cell_id c.args.m in let p : ℕ × ℕ = (c.args.high, c.args.arity) in
     let o = c.requires.classes (sym c.is_filed.ensures ∙ c.if-is_filed.true) in
     let no_m : In m (list_in f m Atom) → ⊥ = λ i. (each_in _ _ m c.requires.line.cells i).1 refl in
-    sym (class_none f m (list_in f m Atom) o.0 o.1 no_m p (sym (c.leader_of.ensures o.0 o.1.tree) ∙ ap (option_map cell_id) c.in-None.is))
+    sym (class_none f m (list_in f m Atom) o.0 o.1 no_m p (sym (c.last_of.ensures o.0 o.1.tree) ∙ ap (option_map cell_id) c.in-None.is))
 
 pub returns-in-Some : goal.returns-in-Some
 returns-in-Some c =
@@ -40,7 +40,7 @@ returns-in-Some c =
     let o = c.requires.classes (sym c.is_filed.ensures ∙ c.if-is_filed.true) in
     let l = cell_id c.in-Some.last in let own = of_class f p (list_in f m Atom) in
     let no_m : In m (list_in f m Atom) → ⊥ = λ i. (each_in _ _ m c.requires.line.cells i).1 refl in
-    subst (λ u. from u own ≡ own) c.link.ensures (class_begins f m (list_in f m Atom) o.0 o.1 no_m p l (sym (c.leader_of.ensures o.0 o.1.tree) ∙ ap (option_map cell_id) c.in-Some.is))
+    subst (λ u. from u own ≡ own) c.link.ensures (class_begins f m (list_in f m Atom) o.0 o.1 no_m p l (sym (c.last_of.ensures o.0 o.1.tree) ∙ ap (option_map cell_id) c.in-Some.is))
 
 pub seek-requires-clause-start : goal.seek-requires-clause-start
 seek-requires-clause-start c =

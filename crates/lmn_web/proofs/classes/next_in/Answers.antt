@@ -7,8 +7,8 @@ use Rattle.lmn_web_cells.specs.CellIds.{cell_id}
 use Rattle.lmn_web.specs.declared.kind.CellKind.TheVariants.{Atom}
 use Rattle.lmn_web.specs.Webs.{list_in}
 use Rattle.lmn_base.specs.Lists.{In}
-use Rattle.lmn_web.specs.Classes.{key_in, is_key, leaders, of_class}
-use Rattle.lmn_web.proofs.ClassEnds.{even_alive, ends_lead, files_membrane, lead_ends}
+use Rattle.lmn_web.specs.Classes.{key_in, is_key, lasts, of_class}
+use Rattle.lmn_web.proofs.ClassEnds.{even_alive, ends_last, files_membrane, last_ends}
 use Rattle.lmn_web.proofs.ListedLemmas.{goes_on}
 use Rattle.lmn_web.proofs.SeekLemmas.{next_some}
 use Rattle.lmn_web.proofs.Reclassing.{key_same}
@@ -41,14 +41,14 @@ pub returns-then-is_last : goal.returns-then-is_last
 returns-then-is_last c =
     let f = cells_by c.args.cells.now in let m = cell_id c.args.m in let x = cell_id c.args.c in let filed = sym c.is_filed.ensures ∙ c.if-is_filed.true in
     let o = c.requires.classes filed in
-    let last = ends_lead f m (list_in f m Atom) o.0 o.1 c.requires.kinds (files_membrane f m filed) x c.requires.inside (sym c.is_last.ensures ∙ c.if-is_last.true) in
+    let last = ends_last f m (list_in f m Atom) o.0 o.1 c.requires.kinds (files_membrane f m filed) x c.requires.inside (sym c.is_last.ensures ∙ c.if-is_last.true) in
     sym ((class_goes_on f m (list_in f m Atom) o.0 o.1 c.requires.line.once x c.requires.inside).0 last)
 
 pub returns-else-is_last : goal.returns-else-is_last
 returns-else-is_last c =
     let f = cells_by c.args.cells.now in let m = cell_id c.args.m in let x = cell_id c.args.c in let own = of_class f (key_in f x) (list_in f m Atom) in let filed = sym c.is_filed.ensures ∙ c.if-is_filed.true in
     let o = c.requires.classes filed in
-    let inner : In x (leaders o.0) → ⊥ = λ i. (let z : true ≡ false = sym (lead_ends f m (list_in f m Atom) o.0 o.1 c.requires.kinds (files_membrane f m filed) x i) ∙ sym c.is_last.ensures ∙ c.if-is_last.false in cc) in
+    let inner : In x (lasts o.0) → ⊥ = λ i. (let z : true ≡ false = sym (last_ends f m (list_in f m Atom) o.0 o.1 c.requires.kinds (files_membrane f m filed) x i) ∙ sym c.is_last.ensures ∙ c.if-is_last.false in cc) in
     subst (λ u. from u own ≡ after x own) c.link.ensures ((class_goes_on f m (list_in f m Atom) o.0 o.1 c.requires.line.once x c.requires.inside).1 inner)
 
 pub seek-requires-clause-start : goal.seek-requires-clause-start

@@ -101,7 +101,7 @@ drop_class-requires-clause-leaf c =
     let r = c.requires.classes in let t = r.1 in let a = r.2 in
     let w = begins_tree f m x r.0 t a r.3 c.requires.last in let b = below_is f m x r.0 t a x w.0 w.1 w.2 in
     let low = c.lowest-leaf.ensures w.0 w.1 b.0 b.1 in
-    if_some cell_id c.lowest-leaf.result.leader (λ q. IsSome (f q) × IsSome (f (cell_id c.lowest-leaf.result.holder)) × (c.lowest-leaf.result.word < 7)) (λ q e.
+    if_some cell_id c.lowest-leaf.result.last (λ q. IsSome (f q) × IsSome (f (cell_id c.lowest-leaf.result.holder)) × (c.lowest-leaf.result.word < 7)) (λ q e.
     let there = lowest_there f x w.0 w.1 b.0 b.1 a.there_c q (sym low.2 ∙ e) in
     (there.0, subst (λ z. IsSome (f z)) (sym low.0) there.1, subst (λ k. k < 7) (sym low.1) there.2))
 

@@ -5,7 +5,7 @@ use Rattle.lmn_web_cells.specs.CellIds.{cell_id}
 use Rattle.lmn_web_cells.specs.Runs.{link_in}
 use Rattle.lmn_web_cells.specs.Links.{LEADERS}
 use Rattle.lmn_web.proofs.ClassLemmas.{Left, bulk, tree_small, side_of, left_all, left_next, left_found, left_none, left_there}
-use Rattle.lmn_web.proofs.classes.leader_of.Goals as goal
+use Rattle.lmn_web.proofs.classes.last_of.Goals as goal
 
 pub loop-at-init : goal.loop-at-init
 loop-at-init c =

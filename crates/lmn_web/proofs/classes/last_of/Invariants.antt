@@ -3,7 +3,7 @@ use Rattle.std.specs.Option.{option_map}
 use Rattle.lmn_web_cells.specs.Cells.{cells_by}
 use Rattle.lmn_web_cells.specs.CellIds.{cell_id}
 use Rattle.lmn_web.proofs.ClassLemmas.{Left, bulk}
-use Rattle.lmn_web.proofs.classes.leader_of.Given as goal
+use Rattle.lmn_web.proofs.classes.last_of.Given as goal
 
 abbrev pub invariant-loop-at : goal.invariant-loop-at
 invariant-loop-at l = (holder : ℕ) × (link : ℕ) × Left (cells_by l.cells) (l.high, l.arity) (cell_id l.fn.m) (length l.cells) holder link l.rest (option_map cell_id l.at)
