@@ -88,7 +88,7 @@ pub holder_link : (f : ℕ → Option HeldCell) (m c : ℕ) (xs : List ℕ) (t :
 holder_link f m c xs t a p = link_small f m xs t a.classed a.no_m p
 
 -- in a word of a link
-pub holder_word : (f : ℕ → Option HeldCell) (m c : ℕ) (xs : List ℕ) (t : ClassTree) → MayFile f m c xs t → (p : ℕ × ℕ) (word : ℕ) → (word < 7) ⊎ (word ≡ 16) → link_of word ≡ (place_in f p m t).link → IsLinkWord (f (place_in f p m t).holder) word
+pub holder_word : (f : ℕ → Option HeldCell) (m c : ℕ) (xs : List ℕ) (t : ClassTree) → MayFile f m c xs t → (p : ℕ × ℕ) (word : ℕ) → (word < 7) ⊎ (word ≡ 15) → link_of word ≡ (place_in f p m t).link → IsLinkWord (f (place_in f p m t).holder) word
 holder_word f m c xs t a p word (inl low) e = inl low
 holder_word f m c xs t a p word (inr last) e =
     let head : (place_in f p m t).link ≡ LEADERS = sym e ∙ ap link_of last in

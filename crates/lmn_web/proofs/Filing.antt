@@ -7,7 +7,7 @@ use Rattle.lmn_store_heap.specs.Heap.{alter}
 use Rattle.lmn_store_heap.specs.Lists.{Distinct, from, without}
 use Rattle.lmn_store_heap.proofs.Listing.{alter_at, alter_away}
 use Rattle.lmn_store_heap.proofs.ListLemmas.{each_in, each_of}
-use Rattle.lmn_web_cells.specs.Cells.{HeldCell, links_of, numbers_of, with_link, with_number}
+use Rattle.lmn_web_cells.specs.Cells.{HeldCell, links_of, numbers_of, with_link, with_number, IsNewIndex}
 use Rattle.lmn_web_cells.specs.Runs.{RunsThrough, node_in, link_in, Line, put_before, with_next, with_prev, appended, inserted, unlinked}
 use Rattle.lmn_web_cells.specs.Links.{HOME, NEXT, PREV, CLASS_NEXT, CLASS_PREV, EVEN, ODD, LEADERS}
 use Rattle.lmn_web_cells.proofs.LineLemmas.{keeps, link_other}
@@ -152,16 +152,16 @@ empty_classed f made none w = record {
 }
 
 -- a new cell has no class
-pub made_classed : (f : ℕ → Option HeldCell) (made : ℕ) → IsClassedWeb f made → (a n k h low : ℕ) → f a ≡ None → n < 256 → low < 2 ^ 64
-    → (k ≡ FILED → h ≡ 0) → IsClassedWeb (alter f a (λ _. Some (described made n k h low (blank_by k n)))) (made + 1)
-made_classed f made w a n k h low fresh small half told =
-    let v : HeldCell = described made n k h low (blank_by k n) in let g = alter f a (λ _. Some v) in
+pub made_classed : (f : ℕ → Option HeldCell) (made : ℕ) → IsClassedWeb f made → (a n k h low : ℕ) → f a ≡ None → n < 256 → (i : ℕ) → i < made → IsNewIndex f i → low < 2 ^ 64
+    → (k ≡ FILED → h ≡ 0) → IsClassedWeb (alter f a (λ _. Some (described n k h low (blank_by i k n)))) made
+made_classed f made w a n k h low fresh small i below new half told =
+    let v : HeldCell = described n k h low (blank_by i k n) in let g = alter f a (λ _. Some v) in
     let here : g a ≡ Some v = alter_at f a (λ _. Some v) in
     let gone : IsSome (f a) → ⊥ = λ t. (let e = subst (λ (o : Option HeldCell). IsSome o) fresh t in absurd cc) in
     record {
-      web = made_web f made w.web a n k h low fresh small;
-      classed = classed_self g (list_in f) (made_lists f made w.web a n k h low fresh small)
-          (classed_beside f g a (list_in f) (λ b d. alter_away f a (λ _. Some v) b d) (λ m j i. gone (cell_of f (list_in f) w.web.listed m a j i).0) (no_list f made w.web a n k h low fresh small)
+      web = made_web f made w.web a n k h low fresh small i below new;
+      classed = classed_self g (list_in f) (made_lists f made w.web a n k h low fresh small i below new)
+          (classed_beside f g a (list_in f) (λ b d. alter_away f a (λ _. Some v) b d) (λ m j i. gone (cell_of f (list_in f) w.web.listed m a j i).0) (no_list f made w.web a n k h low fresh small i below new)
           (ap (λ (o : Option HeldCell). get_or (links_of o) LEADERS None) here) (subst (λ z. z < 2 ^ 64) (sym (ap (λ (o : Option HeldCell). get_or (numbers_of o) LOW 0) here)) half)
           (subst (λ (o : Option HeldCell). get_or (numbers_of o) KIND 0 ≡ FILED → get_or (numbers_of o) HIGH 0 ≡ 0) (sym here) told) w.classed);
     }

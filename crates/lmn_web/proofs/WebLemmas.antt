@@ -7,7 +7,7 @@ use Rattle.std.specs.Option.{option_map}
 use Rattle.lmn_base.proofs.Numbers.{not_equal}
 use Rattle.lmn_store_heap.specs.Heap.{alter}
 use Rattle.lmn_store_heap.proofs.Listing.{alter_at, alter_away, alter_keeps}
-use Rattle.lmn_web_cells.specs.Cells.{HeldPort, HeldCell, links_of, numbers_of, ports_of, port_of, no_port, with_link, with_number, with_mark as with_port_mark}
+use Rattle.lmn_web_cells.specs.Cells.{HeldPort, HeldCell, links_of, numbers_of, ports_of, port_of, no_port, with_link, with_number, with_mark as with_port_mark, IsNewIndex}
 use Rattle.lmn_web_cells.specs.Ports as cell
 use Rattle.lmn_web_cells.specs.Ports.{IsPort, Reaches, Paired, partner_by, partner_in}
 use Rattle.lmn_web_cells.proofs.PortLemmas.{cleared_ports, linked_ports}
@@ -366,14 +366,6 @@ alter_twice f a g h = λ t b. at b t
       | inr d ↦ alter_away (alter f a (option_map g)) a (option_map h) b d ∙ alter_away f a (option_map g) b d ∙ sym (alter_away f a (option_map (λ c. h (g c))) b d)
     ]
 
--- five changes of one place are one
-pub five_steps : (f one two three four five : ℕ → Option HeldCell) (a : ℕ) (p q r s t : HeldCell → HeldCell)
-    → one ≡ alter f a (option_map p) → two ≡ alter one a (option_map q) → three ≡ alter two a (option_map r) → four ≡ alter three a (option_map s) → five ≡ alter four a (option_map t)
-    → five ≡ alter f a (option_map (λ c. t (s (r (q (p c))))))
-five_steps f one two three four five a p q r s t e1 e2 e3 e4 e5 =
-    e5 ∙ ap (λ (g : ℕ → Option HeldCell). alter g a (option_map t)) (e4 ∙ ap (λ (g : ℕ → Option HeldCell). alter g a (option_map s)) (e3 ∙ ap (λ (g : ℕ → Option HeldCell). alter g a (option_map r))
-    (e2 ∙ ap (λ (g : ℕ → Option HeldCell). alter g a (option_map q)) e1 ∙ alter_twice f a p q) ∙ alter_twice f a (λ c. q (p c)) r) ∙ alter_twice f a (λ c. r (q (p c))) s) ∙ alter_twice f a (λ c. s (r (q (p c)))) t
-
 -- four changes of one cell
 pub four_steps : (f one two three four : ℕ → Option HeldCell) (a : ℕ) (p q r s : HeldCell → HeldCell)
     → one ≡ alter f a (option_map p) → two ≡ alter one a (option_map q) → three ≡ alter two a (option_map r) → four ≡ alter three a (option_map s) → four ≡ alter f a (option_map (λ c. s (r (q (p c)))))
@@ -423,7 +415,7 @@ mark_last zero = refl
 mark_last (suc n) = ap (λ ms. 0 ∷ ms) (mark_last n)
 
 -- a new cell stands for a new cell of the web
-pub new_web : (lists : CellKind → List ℕ) (l n i k h low : ℕ) (kind : CellKind) → ((j : CellKind) → lists j ≡ []) → label_by h low ≡ l → kind_by k ≡ kind → web_cell lists (described i n k h low (blank_by k n)) ≡ new_cell l n kind
+pub new_web : (lists : CellKind → List ℕ) (l n i k h low : ℕ) (kind : CellKind) → ((j : CellKind) → lists j ≡ []) → label_by h low ≡ l → kind_by k ≡ kind → web_cell lists (described n k h low (blank_by i k n)) ≡ new_cell l n kind
 new_web lists l n i k h low kind none el ek =
     λ t. record { label = el t; kind = ek t; partners = mapped_none n t; marks = (ap (λ ms. 0 ∷ ms) (mapped_marks n) ∙ mark_last n) t; home = None; atoms = none Atom t; membranes = none Membrane t }
 
@@ -459,9 +451,9 @@ made_tail : (t : Bool) → suc (suc (suc (suc (suc (suc (length {A = ℕ} (if t 
 made_tail true = refl
 made_tail false = refl
 
-module _ (f : ℕ → Option HeldCell) (made : ℕ) (w : IsWeb f made) (a n k h low : ℕ) (fresh : f a ≡ None) (small : n < 256) where
+module _ (f : ℕ → Option HeldCell) (made : ℕ) (w : IsWeb f made) (a n k h low : ℕ) (fresh : f a ≡ None) (small : n < 256) (i : ℕ) (below : i < made) (new : IsNewIndex f i) where
   abbrev cell_made : HeldCell
-  cell_made = described made n k h low (blank_by k n)
+  cell_made = described n k h low (blank_by i k n)
 
   abbrev g : ℕ → Option HeldCell
   g = alter f a (λ _. Some cell_made)
@@ -494,8 +486,8 @@ module _ (f : ℕ → Option HeldCell) (made : ℕ) (w : IsWeb f made) (a n k h 
   no_a : IsSome (f a) → ⊥
   no_a t = let h = subst (λ (o : Option HeldCell). IsSome o) fresh t in absurd cc
 
-  partners_stay : (b i : ℕ) → partner_in g b i ≡ partner_in f b i
-  partners_stay b i = each (λ m o. partner_by (port_of o i) ≡ partner_in f m i) (none_there n i ∙ sym (ap (λ (o : Option HeldCell). partner_by (port_of o i)) fresh)) (λ m d. refl) b
+  partners_stay : (b j : ℕ) → partner_in g b j ≡ partner_in f b j
+  partners_stay b j = each (λ m o. partner_by (port_of o j) ≡ partner_in f m j) (none_there n j ∙ sym (ap (λ (o : Option HeldCell). partner_by (port_of o j)) fresh)) (λ m d. refl) b
 
   -- nothing stands in the lists of a cell that isn't there
   pub no_list : (k : CellKind) → list_in f a k ≡ []
@@ -509,16 +501,16 @@ module _ (f : ℕ → Option HeldCell) (made : ℕ) (w : IsWeb f made) (a n k h 
       (ap (λ (o : Option HeldCell). get_or (links_of o) HOME None) here)
 
   -- a new cell makes a web again
-  pub made_web : IsWeb g (made + 1)
+  pub made_web : IsWeb g made
   made_web = record {
-    indexed = each (λ m o. IsSome o → get_or (numbers_of o) INDEX 0 < made + 1) (λ t. omega arith) (λ m d t. let l = w.indexed m t in omega (arith, l));
+    indexed = each (λ m o. IsSome o → get_or (numbers_of o) INDEX 0 < made) (λ t. below) (λ m d t. w.indexed m t);
     single = λ b c. each (λ m o. IsSome o → IsSome (g c) → get_or (numbers_of o) INDEX 0 ≡ number_in g c INDEX → m ≡ c)
-        (λ _. each (λ m o. IsSome o → made ≡ get_or (numbers_of o) INDEX 0 → a ≡ m) (λ _ _. refl) (λ m d t e. let l = w.indexed m t in absurd (omega (arith, l, e))) c)
-        (λ q _ s. each (λ m o. IsSome o → number_in f q INDEX ≡ get_or (numbers_of o) INDEX 0 → q ≡ m) (λ _ e. let l = w.indexed q s in absurd (omega (arith, l, e))) (λ m d t e. w.single q m s t e) c) b;
+        (λ _. each (λ m o. IsSome o → i ≡ get_or (numbers_of o) INDEX 0 → a ≡ m) (λ _ _. refl) (λ m d t e. absurd (new m t (sym e))) c)
+        (λ q _ s. each (λ m o. IsSome o → number_in f q INDEX ≡ get_or (numbers_of o) INDEX 0 → q ≡ m) (λ _ e. absurd (new q s e)) (λ m d t e. w.single q m s t e) c) b;
     arity = each (λ m o. IsSome o → get_or (numbers_of o) ARITY 0 ≡ length (ports_of o)) (λ t. sym (length-replicate n no_port)) (λ m d. w.arity m);
     few = each (λ m o. length (ports_of o) < 256) (subst (λ c. c < 256) (sym (length-replicate n no_port)) small) (λ m d. w.few m);
     numbers = each (λ m o. IsSome o → length (numbers_of o) ≡ numbers_by (get_or (numbers_of o) KIND 0)) (λ t. made_tail (k == 0)) (λ m d. w.numbers m);
-    reaches = λ c i b j e. let l : IsPort f b j = w.reaches c i b j (sym (partners_stay c i) ∙ e) in
+    reaches = λ c h b j e. let l : IsPort f b j = w.reaches c h b j (sym (partners_stay c h) ∙ e) in
         each (λ m o. (b ≡ m → j < length (ports_of o))) (λ s. absurd (let z : j < length (ports_of (f a)) = subst (λ m. j < length (ports_of (f m))) s l in
         let y : j < 0 = subst (λ (o : Option HeldCell). j < length (ports_of o)) fresh z in omega (arith, y)))
         (λ m d s. subst (λ q. j < length (ports_of (f q))) s l) b refl;

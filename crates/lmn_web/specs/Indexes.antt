@@ -16,13 +16,13 @@ use Rattle.lmn_web_cells.specs.Numbers.{INDEX, ARITY, KIND, HIGH, LOW}
 abbrev pub numbers_by : ℕ → ℕ
 numbers_by kind = if kind == 0 then 6 else 8
 
--- such a cell in which nothing is set
-abbrev pub blank_by : ℕ → ℕ → HeldCell
-blank_by kind ports = record { links = replicate 8 None; numbers = 0 ∷ 0 ∷ 0 ∷ 0 ∷ 0 ∷ 0 ∷ (if kind == 0 then [] else 0 ∷ 0 ∷ []); ports = replicate ports no_port }
+-- such a cell in which nothing is set but its index
+abbrev pub blank_by : ℕ → ℕ → ℕ → HeldCell
+blank_by index kind ports = record { links = replicate 8 None; numbers = 0 ∷ 0 ∷ index ∷ 0 ∷ 0 ∷ 0 ∷ (if kind == 0 then [] else 0 ∷ 0 ∷ []); ports = replicate ports no_port }
 
 -- a cell with these numbers
-abbrev pub described : ℕ → ℕ → ℕ → ℕ → ℕ → HeldCell → HeldCell
-described index arity kind high low c = with_number LOW low (with_number HIGH high (with_number KIND kind (with_number ARITY arity (with_number INDEX index c))))
+abbrev pub described : ℕ → ℕ → ℕ → ℕ → HeldCell → HeldCell
+described arity kind high low c = with_number LOW low (with_number HIGH high (with_number KIND kind (with_number ARITY arity c)))
 
 -- what a cell stands for; where there is none, an atom
 abbrev pub cell_kind : (ℕ → Option HeldCell) → ℕ → CellKind
@@ -36,9 +36,13 @@ pub record IsListed (f : ℕ → Option HeldCell) (lists : ℕ → CellKind → 
   pub homes : (m x : ℕ) → link_in f x HOME ≡ Some m → IsSome (f m) × In x (lists m (cell_kind f x))
   pub bare : (m : ℕ) (k : CellKind) → cell_kind f m ≡ Atom → lists m k ≡ []
 
--- each cell has an index of its own, below how many were made
-pub record IsWeb (f : ℕ → Option HeldCell) (made : ℕ) : Type 0 where
-  pub indexed : (b : ℕ) → IsSome (f b) → number_in f b INDEX < made
+-- a web has at most so many cells: their indexes are below that
+abbrev pub most_cells : ℕ
+most_cells = 2 ^ 32
+
+-- each cell has an index of its own, below a limit
+pub record IsWeb (f : ℕ → Option HeldCell) (limit : ℕ) : Type 0 where
+  pub indexed : (b : ℕ) → IsSome (f b) → number_in f b INDEX < limit
   pub single : (a b : ℕ) → IsSome (f a) → IsSome (f b) → number_in f a INDEX ≡ number_in f b INDEX → a ≡ b
   pub arity : (b : ℕ) → IsSome (f b) → number_in f b ARITY ≡ length (ports_of (f b))
   pub few : (b : ℕ) → length (ports_of (f b)) < 256
@@ -54,8 +58,8 @@ pub record IsClassed (f : ℕ → Option HeldCell) (lists : ℕ → CellKind →
   pub low : (b : ℕ) → number_in f b LOW < 2 ^ 64
 
 -- a web whose atoms are linked by class
-pub record IsClassedWeb (f : ℕ → Option HeldCell) (made : ℕ) : Type 0 where
-  pub web : IsWeb f made
+pub record IsClassedWeb (f : ℕ → Option HeldCell) (limit : ℕ) : Type 0 where
+  pub web : IsWeb f limit
   pub classed : IsClassed f (list_in f)
 
 -- each cell tells how many ports it has, and has the numbers of its kind

@@ -24,7 +24,7 @@ pub const UNFILED: u64 = 2;
 /// The number by which a cell tells its kind. The atoms of a membrane are filed where its label has this class, which is 0.
 pub fn number_of(kind: CellKind, class: u64) -> u64
     ensures kind { kind_by result ≡ kind }
-    ensures small { result < 2 ^ 32 }
+    ensures small { result < 256 }
     ensures filed { result ≡ FILED → class ≡ 0 }
 {
     match kind {

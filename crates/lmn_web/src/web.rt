@@ -4,13 +4,13 @@ ghost use Rattle.std.specs.Option.{option_map};
 ghost use Rattle.lmn_base.specs.Lists.{In};
 ghost use Rattle.lmn_store_heap.specs.Heap.{alter};
 ghost use Rattle.lmn_store_heap.specs.Lists.{after, from};
-ghost use Rattle.lmn_web_cells.specs.Cells.{cells_by, numbers_of, ports_of};
+ghost use Rattle.lmn_web_cells.specs.Cells.{cells_by, numbers_of, ports_of, IsNewIndex};
 ghost use Rattle.lmn_web_cells.specs.CellIds.{cell_id, port_id};
 ghost use Rattle.lmn_web_cells.specs.Ports.{IsSamePort};
 ghost use Rattle.lmn_web_cells.specs.Runs.{Line};
 ghost use Rattle.lmn_web.specs.Webs.{web_by, partner_at, arity_at, kind_at, home_at, cells_in, list_in, list_link, number_in, partners_of, marks_of, new_cell, with_mark, joined, parted, added_last, added_before, unlinked, web_label, is_labelled, with_label, label_class, with_class, FilesNone, IsPaired, IsLoose, StandOnce, WithoutAtoms};
 ghost use Rattle.lmn_web.specs.Kinds.{kind_by, FILED};
-ghost use Rattle.lmn_web.specs.Indexes.{described, bare_atoms, AreSized, Without, blank_by, numbers_by};
+ghost use Rattle.lmn_web.specs.Indexes.{described, bare_atoms, AreSized, Without, blank_by, most_cells, numbers_by};
 ghost use Rattle.lmn_web.specs.declared.kind.CellKind.TheVariants.{Atom, Membrane};
 
 use crate::classes::{enter_class, first_in, is_filed, leave_class, next_in, place_from};
@@ -30,27 +30,25 @@ const WHOLE: u128 = 0x1_0000_0000_0000_0000;
 /// A web of cells.
 pub struct Web {
     cells: Cells,
-    // How many cells were made: the index of the next one.
-    made: u64,
 }
 
 impl Model for Web {
     ghost use Rattle.std.specs.Prelude.{List};
     ghost use Rattle.lmn_web_cells.specs.Rows.{Row};
     ghost use Rattle.lmn_web_cells.specs.Cells.{cells_by};
-    ghost use Rattle.lmn_web.specs.Indexes.{IsClassedWeb};
+    ghost use Rattle.lmn_web.specs.Indexes.{IsClassedWeb, most_cells};
 
     ghost Value = { List Row };
 
     ghost view = { λ s. s.cells };
 
-    ghost invariant = { λ s. IsClassedWeb (cells_by s.cells) s.made };
+    ghost invariant = { λ s. IsClassedWeb (cells_by s.cells) most_cells };
 }
 
 impl Drop for Web {
     #[inline(never)]
     fn drop(self) {
-        let Web { cells, made: _ } = self;
+        let Web { cells } = self;
         cells.end();
     }
 }
@@ -62,7 +60,6 @@ impl Web {
     {
         Web {
             cells: Cells::new(alloc),
-            made: 0,
         }
     }
 
@@ -82,21 +79,16 @@ impl Web {
     // A new cell that tells its kind by this number.
     #[inline(always)]
     fn make_by(&mut self, label: u128, arity: u8, kind: u64) -> Result<Cell, AllocError>
-        requires small { kind < 2 ^ 32 }
+        requires small { kind < 256 }
         requires filed { kind ≡ FILED → label_class label ≡ 0 }
         ensures { MatchResult result
             (λ c. (web_by self.old (cell_id c) ≡ None) × (web_by self.new ≡ alter (web_by self.old) (cell_id c) (λ _. Some (new_cell label arity (kind_by kind)))))
             (λ _. web_by self.new ≡ web_by self.old) }
     {
-        let index = self.made;
-        let Some(made) = index.checked_add(1) else {
-            return Err(AllocError);
-        };
         let c = make_blank(&mut self.cells, arity, kind)?;
         let high = (label / WHOLE) as u64;
         let low = (label % WHOLE) as u64;
-        describe(&mut self.cells, c, index, arity as u64, kind, high, low);
-        self.made = made;
+        describe(&mut self.cells, c, arity as u64, kind, high, low);
         Ok(c)
     }
 
@@ -157,7 +149,7 @@ impl Web {
     pub fn paired(&self)
         ensures { IsPaired (web_by self.now) }
     {
-        let _ = &self.made;
+        let _ = &self.cells;
     }
 
     /// The other end of a port.
@@ -193,7 +185,7 @@ impl Web {
     pub fn listed(&self)
         ensures { StandOnce (web_by self.now) }
     {
-        let _ = &self.made;
+        let _ = &self.cells;
     }
 
     /// The membrane in a list of which the cell stands.
@@ -431,11 +423,11 @@ impl Web {
     }
 }
 
-// A cell in which nothing is set, that is to tell its kind by this number. No membrane is made but with one port.
+// A cell in which nothing is set but an index that no other one has, and that is to tell its kind by this number. No membrane is made but with one port.
 #[inline(always)]
 fn make_blank(cells: &mut Cells, arity: u8, kind: u64) -> Result<Cell, AllocError>
     ensures { MatchResult result
-        (λ c. (cells_by cells.old (cell_id c) ≡ None) × (cells_by cells.new ≡ alter (cells_by cells.old) (cell_id c) (λ _. Some (blank_by kind arity))))
+        (λ c. (cells_by cells.old (cell_id c) ≡ None) × (index : ℕ) × (index < most_cells) × IsNewIndex (cells_by cells.old) index × (cells_by cells.new ≡ alter (cells_by cells.old) (cell_id c) (λ _. Some (blank_by index kind arity))))
         (λ _. cells_by cells.new ≡ cells_by cells.old) }
 {
     if kind == 0 {
@@ -448,12 +440,11 @@ fn make_blank(cells: &mut Cells, arity: u8, kind: u64) -> Result<Cell, AllocErro
 }
 
 // The numbers of a cell that was just made.
-fn describe(cells: &mut Cells, c: Cell, index: u64, arity: u64, kind: u64, high: u64, low: u64)
+fn describe(cells: &mut Cells, c: Cell, arity: u64, kind: u64, high: u64, low: u64)
     requires there { IsSome (cells_by cells.old (cell_id c)) }
-    requires small { (arity < 2 ^ 32) × (kind < 2 ^ 32) }
-    ensures { cells_by cells.new ≡ alter (cells_by cells.old) (cell_id c) (option_map (described index arity kind high low)) }
+    requires small { (arity < 256) × (kind < 256) }
+    ensures { cells_by cells.new ≡ alter (cells_by cells.old) (cell_id c) (option_map (described arity kind high low)) }
 {
-    cells.set_number(c, INDEX, index);
     cells.set_number(c, ARITY, arity);
     cells.set_number(c, KIND, kind);
     cells.set_number(c, HIGH, high);

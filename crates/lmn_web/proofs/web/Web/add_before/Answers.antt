@@ -9,7 +9,7 @@ use Rattle.lmn_web_cells.specs.Links.{HOME}
 use Rattle.lmn_web.specs.declared.kind.CellKind.TheVariants.{Atom}
 use Rattle.lmn_web.specs.Kinds.{kind_by}
 use Rattle.lmn_web.specs.Webs.{web_by, list_in, list_link, count_number, number_in, home_at, added_before}
-use Rattle.lmn_web.specs.Indexes.{cell_kind}
+use Rattle.lmn_web.specs.Indexes.{cell_kind, most_cells}
 use Rattle.lmn_web.proofs.ListedLemmas.{own_line, home_same, link_behind, link_below}
 use Rattle.lmn_web.proofs.RelistLemmas.{enters_before, before_among, inserted_there, inserted_eight, inserted_fits, inserts, relists_is, in_none, before_is}
 use Rattle.lmn_web.proofs.WebLemmas.{some_back}
@@ -87,9 +87,9 @@ overflow_add-count c =
     let among = before_among c.self.inside.cells c.args.self.now _ c.self.view_is w m a x home c.requires.kind in
     let enters = enters_before c.self.inside.cells c.args.self.now _ c.self.view_is w m a x home c.requires.kind c.requires.there c.requires.homeless c.requires.differ in
     let kind : c.kind_of-kind.result ≡ cell_kind f x = c.kind_of-kind.ensures ∙ ap kind_by c.number.ensures in
-    let fits = inserted_fits f (cells_by c.insert.new.cells) (cells_by c.insert.new.cells) c.self.inside.made w m x c.first_link.result c.count_place.result c.count_place.result c.count-count.result enters (c.first_link.ensures ∙ ap list_link kind) (c.count_place.ensures ∙ ap count_number kind) (c.count_place.ensures ∙ ap count_number kind) c.count-count.ensures a among
+    let fits = inserted_fits f (cells_by c.insert.new.cells) (cells_by c.insert.new.cells) most_cells w m x c.first_link.result c.count_place.result c.count_place.result c.count-count.result enters (c.first_link.ensures ∙ ap list_link kind) (c.count_place.ensures ∙ ap count_number kind) (c.count_place.ensures ∙ ap count_number kind) c.count-count.ensures a among
     (c.insert.ensures.inserted, c.insert.ensures.list, c.insert.ensures.others) in
-    let small = c.self.ranges.1 in omega (arith, fits, small)
+    omega (arith, fits)
 
 pub is_filed-filed-requires : goal.is_filed-filed-requires
 is_filed-filed-requires c =

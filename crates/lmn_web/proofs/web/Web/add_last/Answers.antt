@@ -5,7 +5,7 @@ use Rattle.lmn_web_cells.specs.Cells.{cells_by}
 use Rattle.lmn_web_cells.specs.CellIds.{cell_id}
 use Rattle.lmn_web_cells.specs.Runs.{Line, IsHome}
 use Rattle.lmn_web.specs.Webs.{web_by, kind_at, list_in, list_link, count_number, number_in, added_last}
-use Rattle.lmn_web.specs.Indexes.{cell_kind}
+use Rattle.lmn_web.specs.Indexes.{cell_kind, most_cells}
 use Rattle.lmn_web.proofs.ListedLemmas.{kind_same, link_behind, link_below}
 use Rattle.lmn_web.proofs.RelistLemmas.{enters_last, appended_there, appended_eight, appended_fits, appends, relists_is, membrane_there, in_none, last_is}
 use Rattle.lmn_web.specs.Classes.{files, key_in, MayEnter}
@@ -69,9 +69,9 @@ overflow_add-count c =
     let f = cells_by c.self.inside.cells in let m = cell_id c.args.home in let x = cell_id c.args.c in let w = c.self.invariant.web in
     let enters = enters_last c.self.inside.cells c.args.self.now c.self.view_is m x c.requires.there c.requires.homeless c.requires.membrane c.requires.differ in
     let kind : c.args.kind ≡ cell_kind f x = sym c.requires.kind ∙ ap (λ (z : List Row). kind_at (web_by z) x) (sym c.self.view_is) ∙ kind_same f (list_in f) x in
-    let fits = appended_fits f (cells_by c.append.new.cells) (cells_by c.append.new.cells) c.self.inside.made w m x c.first_link.result c.count_place.result c.count_place.result c.count-count.result enters (c.first_link.ensures ∙ ap list_link kind) (c.count_place.ensures ∙ ap count_number kind) (c.count_place.ensures ∙ ap count_number kind) c.count-count.ensures
+    let fits = appended_fits f (cells_by c.append.new.cells) (cells_by c.append.new.cells) most_cells w m x c.first_link.result c.count_place.result c.count_place.result c.count-count.result enters (c.first_link.ensures ∙ ap list_link kind) (c.count_place.ensures ∙ ap count_number kind) (c.count_place.ensures ∙ ap count_number kind) c.count-count.ensures
     (c.append.ensures.appended, c.append.ensures.list, c.append.ensures.others) in
-    let small = c.self.ranges.1 in omega (arith, fits, small)
+    omega (arith, fits)
 
 pub enter_class-requires : goal.enter_class-requires
 enter_class-requires c sure =

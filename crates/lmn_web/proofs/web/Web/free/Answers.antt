@@ -4,7 +4,7 @@ use Rattle.lmn_web_cells.specs.Rows.{Row}
 use Rattle.lmn_web_cells.specs.Cells.{HeldCell, cells_by}
 use Rattle.lmn_web_cells.specs.CellIds.{cell_id}
 use Rattle.lmn_web.specs.Webs.{web_by, web_of, list_in, IsLoose}
-use Rattle.lmn_web.specs.Indexes.{IsClassedWeb}
+use Rattle.lmn_web.specs.Indexes.{IsClassedWeb, most_cells}
 use Rattle.lmn_web.proofs.FreeLemmas.{loose_back, freed_web, freed_classed, freed_is}
 use Rattle.lmn_web.proofs.WebLemmas.{some_back}
 use Rattle.lmn_web.proofs.web.Web.free.Goals as goal
@@ -24,7 +24,7 @@ free_cell-requires-clause-numbers c =
 
 pub invariant_of-self : goal.invariant_of-self
 invariant_of-self c =
-    let f = cells_by c.self.inside.cells in let a = cell_id c.args.c in let w = c.self.invariant.web in let made = c.self.inside.made in
+    let f = cells_by c.self.inside.cells in let a = cell_id c.args.c in let w = c.self.invariant.web in let made = most_cells in
     let loose = loose_back f (list_in f) w.listed a (subst (λ (z : List Row). IsLoose (web_by z) a) (sym c.self.view_is) c.requires) in
     subst (λ (g : ℕ → Option HeldCell). IsClassedWeb g made) (sym c.free_cell.ensures) record {
       web = freed_web f made w a loose.1 loose.2 loose.3;
@@ -35,4 +35,4 @@ pub returns : goal.returns
 returns c =
     let f = cells_by c.self.inside.cells in let a = cell_id c.args.c in let w = c.self.invariant.web in
     let loose = loose_back f (list_in f) w.listed a (subst (λ (z : List Row). IsLoose (web_by z) a) (sym c.self.view_is) c.requires) in
-    ap web_of c.free_cell.ensures ∙ freed_is f c.self.inside.made w a loose.1 loose.2 loose.3 ∙ ap (λ (z : List Row). alter (web_by z) a (λ _. None)) c.self.view_is
+    ap web_of c.free_cell.ensures ∙ freed_is f most_cells w a loose.1 loose.2 loose.3 ∙ ap (λ (z : List Row). alter (web_by z) a (λ _. None)) c.self.view_is

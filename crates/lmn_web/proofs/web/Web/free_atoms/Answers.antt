@@ -9,7 +9,7 @@ use Rattle.lmn_web_cells.specs.Numbers.{KIND}
 use Rattle.lmn_web_cells.specs.Ports.{partner_in}
 use Rattle.lmn_web.specs.declared.kind.CellKind.TheVariants.{Atom, Membrane}
 use Rattle.lmn_web.specs.Webs.{WithoutAtoms, web_by, web_of, kind_at, cells_in, partner_at, list_in, number_in}
-use Rattle.lmn_web.specs.Indexes.{bare_atoms, cell_kind}
+use Rattle.lmn_web.specs.Indexes.{bare_atoms, cell_kind, most_cells}
 use Rattle.lmn_web.proofs.ListedLemmas.{atom_number, cell_of, no_atom_by}
 use Rattle.lmn_web.proofs.FreeLemmas.{web_sized}
 use Rattle.lmn_web.proofs.EmptyLemmas.{Emptied, emptied, closed_cells, empty_is, empty_web, empty_classed, membrane_there}
@@ -22,7 +22,7 @@ free_list-requires-clause-there c =
     membrane_there f m (no_atom_by f (list_in f) m (subst (λ (z : List Row). kind_at (web_by z) m ≡ Membrane) (sym c.self.view_is) c.requires.membrane))
 
 pub free_list-requires-clause-sized : goal.free_list-requires-clause-sized
-free_list-requires-clause-sized c = web_sized (cells_by c.self.inside.cells) c.self.inside.made c.self.invariant.web
+free_list-requires-clause-sized c = web_sized (cells_by c.self.inside.cells) most_cells c.self.invariant.web
 
 pub free_list-requires-clause-line : goal.free_list-requires-clause-line
 free_list-requires-clause-line c =
@@ -52,10 +52,10 @@ invariant_of-self c =
     let is : h ≡ alter g m (option_map bare_atoms) = c.forget_atoms.ensures in
     let e : Emptied f h m xs = subst (λ (u : ℕ → Option HeldCell). Emptied f u m xs) (sym is) (emptied f g m xs (λ i. (cell_of f (list_in f) W.listed m m Atom i).1 refl) c.free_list.ensures) in
     let closed : (a i b j : ℕ) → In a xs → partner_in f a i ≡ Some (b, j) → In b xs =
-    closed_cells f c.self.inside.made W m (subst (λ (z : List Row). (a i b j : ℕ) → In a (cells_in (web_by z) m Atom) → partner_at (web_by z) a i ≡ Some (b, j) → In b (cells_in (web_by z) m Atom)) (sym c.self.view_is) c.requires.closed) in
+    closed_cells f most_cells W m (subst (λ (z : List Row). (a i b j : ℕ) → In a (cells_in (web_by z) m Atom) → partner_at (web_by z) a i ≡ Some (b, j) → In b (cells_in (web_by z) m Atom)) (sym c.self.view_is) c.requires.closed) in
     record {
-      web = empty_web f h c.self.inside.made W m membrane e closed;
-      classed = empty_classed f h c.self.inside.made W m membrane e closed c.self.invariant.classed;
+      web = empty_web f h most_cells W m membrane e closed;
+      classed = empty_classed f h most_cells W m membrane e closed c.self.invariant.classed;
     }
 
 pub returns : goal.returns
@@ -65,4 +65,4 @@ returns c =
     let g = cells_by c.free_list.new.cells in let h = cells_by c.forget_atoms.new.cells in
     let is : h ≡ alter g m (option_map bare_atoms) = c.forget_atoms.ensures in
     let e : Emptied f h m xs = subst (λ (u : ℕ → Option HeldCell). Emptied f u m xs) (sym is) (emptied f g m xs (λ i. (cell_of f (list_in f) W.listed m m Atom i).1 refl) c.free_list.ensures) in
-    subst (λ (z : List Row). WithoutAtoms (web_by z) (web_of h) m) c.self.view_is (empty_is f h c.self.inside.made W m membrane e)
+    subst (λ (z : List Row). WithoutAtoms (web_by z) (web_of h) m) c.self.view_is (empty_is f h most_cells W m membrane e)

@@ -6,7 +6,7 @@ use Rattle.std.proofs.Common.{arith}
 use Rattle.std.specs.Option.{option_map}
 use Rattle.lmn_store_heap.specs.Heap.{alter}
 use Rattle.lmn_web.specs.Webs.{web_by, web_of, list_in, with_mark}
-use Rattle.lmn_web.specs.Indexes.{IsClassedWeb}
+use Rattle.lmn_web.specs.Indexes.{IsClassedWeb, most_cells}
 use Rattle.lmn_web.proofs.WebLemmas.{told_mark, told_own, port_mark_keeps, own_mark_keeps, port_mark_web, own_mark_web, mark_keeps, own_keeps, some_back, mark_there}
 use Rattle.lmn_web.proofs.Filing.{same_classed}
 use Rattle.lmn_web.proofs.web.Web.set_mark.Goals as goal
@@ -17,13 +17,13 @@ set_mark-requires-clause-small c = c.requires.small c.if-slot-eq0.false
 pub invariant_of-self : goal.invariant_of-self
 invariant_of-self c =
     let f = cells_by c.self.inside.cells in let a = cell_id c.args.c in
-    subst (λ f. IsClassedWeb f c.self.inside.made) (sym c.set_number.ensures)
+    subst (λ f. IsClassedWeb f most_cells) (sym c.set_number.ensures)
     (same_classed f _ _ c.self.invariant (told_own f a c.args.v) (own_mark_keeps f _ a c.args.v c.self.invariant.web))
 
 pub invariant_of-self-else-slot-eq0 : goal.invariant_of-self-else-slot-eq0
 invariant_of-self-else-slot-eq0 c =
     let f = cells_by c.self.inside.cells in let a = cell_id c.args.c in let i = c.args.slot - 1 in
-    subst (λ f. IsClassedWeb f c.self.inside.made) (sym c.set_mark.ensures)
+    subst (λ f. IsClassedWeb f most_cells) (sym c.set_mark.ensures)
     (same_classed f _ _ c.self.invariant (told_mark f a i c.args.v) (port_mark_keeps f _ a i c.args.v c.self.invariant.web))
 
 pub returns-then-slot-eq0 : goal.returns-then-slot-eq0
