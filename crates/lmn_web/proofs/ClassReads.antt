@@ -1,9 +1,10 @@
 -- What the links of classes tell of the web.
-use Rattle.std.proofs.Common.{◌≡◌, ◌==◌, ◌&&◌, ◌^◌, ◌<◌, ℕ, List, [], length, get_or, Option, Some, None, IsSome, refl, sym, ap, subst, ◌∙◌, arith}
+use Rattle.std.proofs.Common.{◌≡◌, ◌==◌, ◌&&◌, ◌^◌, ◌<◌, ℕ, List, [], ◌∷◌, ◌++◌, length, get_or, Option, Some, None, IsSome, refl, sym, ap, subst, ◌∙◌, arith}
 use Rattle.std.proofs.lemmas.List.{length-map}
 use Rattle.std.specs.Option.{option_map}
 use Rattle.lmn_base.specs.Lists.{In}
 use Rattle.lmn_store_heap.specs.Lists.{Distinct, from, after}
+use Rattle.lmn_store_heap.proofs.ListLemmas.{in_split}
 use Rattle.lmn_web_cells.specs.Cells.{HeldCell, numbers_of, ports_of}
 use Rattle.lmn_web_cells.specs.Ports.{partner_by}
 use Rattle.lmn_web_cells.specs.Runs.{link_in}
@@ -14,7 +15,7 @@ use Rattle.lmn_web.specs.Indexes.{IsClassedWeb}
 use Rattle.lmn_web.specs.Classes.{class_node, key_in, is_key, of_class, IsRing, ClassTree, lasts, top, AreClassed, place_in}
 use Rattle.lmn_web_cells.specs.Links.{CLASS_NEXT}
 use Rattle.lmn_web.proofs.ListedLemmas.{list_same, cell_of}
-use Rattle.lmn_web.proofs.Rings.{ring_begins, ring_ends, ring_goes_on}
+use Rattle.lmn_web.proofs.Rings.{ring_begins, ring_ends, ring_goes_on, ring_some, ring_next_some}
 use Rattle.lmn_web.proofs.Reclassing.{key_same, key_true}
 use Rattle.lmn_web.proofs.ClassPlaces.{last_in}
 use Rattle.lmn_web.proofs.FilterLemmas.{filter_same}
@@ -42,6 +43,21 @@ pub class_begins : (f : ℕ → Option HeldCell) (m : ℕ) (xs : List ℕ) (t : 
 class_begins f m xs t c no_m p l e =
     let i = last_in f m xs t c no_m p l e in let r = c.rings l i.0 in
     subst (λ q. from (link_in f l CLASS_NEXT) (of_class f q xs) ≡ of_class f q xs) (key_true (key_in f l) p i.1) (ring_begins (class_node f) l (of_class f (key_in f l) xs) r.1 r.2 r.0)
+
+-- there is one behind its last one
+pub class_first : (f : ℕ → Option HeldCell) (m : ℕ) (xs : List ℕ) (t : ClassTree) → AreClassed f m xs t → (In m xs → ⊥) → (p : ℕ × ℕ) (l : ℕ) → top (place_in f p m t).tree ≡ Some l → link_in f l CLASS_NEXT ≡ None → ⊥
+class_first f m xs t c no_m p l e n =
+    let r = c.rings l (last_in f m xs t c no_m p l e).0 in let d = ring_some (class_node f) l (of_class f (key_in f l) xs) r.1 r.2 r.0 in
+    let z : ◌≡◌ {A = Option ℕ} None (Some d.0) = sym n ∙ d.1 in cc
+
+-- and behind each other one
+pub class_next : (f : ℕ → Option HeldCell) (m : ℕ) (xs : List ℕ) (t : ClassTree) → AreClassed f m xs t → (x : ℕ) → In x xs → link_in f x CLASS_NEXT ≡ None → ⊥
+class_next f m xs t c x i n =
+    let q = key_in f x in let l = c.every x i in
+    let s = in_split x (of_class f q xs) (filter_in (λ a. is_key (key_in f a) q) x xs i (key_same q)) in
+    let r : IsRing f l.0 (s.0 ++ (x ∷ s.1)) = subst (λ us. IsRing f l.0 us) s.2 (subst (λ p. IsRing f l.0 (of_class f p xs)) l.2 (c.rings l.0 l.1)) in
+    let d = ring_next_some (class_node f) l.0 s.0 x s.1 r.1 r.0 r.2 in
+    let z : ◌≡◌ {A = Option ℕ} None (Some d.0) = sym n ∙ d.1 in cc
 
 -- and goes on: behind its last one there is none
 pub class_goes_on : (f : ℕ → Option HeldCell) (m : ℕ) (xs : List ℕ) (t : ClassTree) → AreClassed f m xs t → Distinct xs → (x : ℕ) → In x xs → (In x (lasts t) → after x (of_class f (key_in f x) xs) ≡ []) × ((In x (lasts t) → ⊥) → from (link_in f x CLASS_NEXT) (of_class f (key_in f x) xs) ≡ after x (of_class f (key_in f x) xs))

@@ -290,6 +290,11 @@ pub some_told : {X : Type 0} (id : X → ℕ) (o : Option X) (p : Option ℕ) �
 some_told id None p e t = absurd (cc)
 some_told id (Some x) p e t = subst IsSome (sym e) refl
 
+-- one that is not nothing has something
+pub some_known : {X : Type 0} (id : X → ℕ) (o : Option X) → (option_map id o ≡ None → ⊥) → IsSome o
+some_known id None n = absurd (n refl)
+some_known id (Some x) n = refl
+
 -- what an option that is told by numbers matches
 pub matched_by : {X : Type 0} (id : X → ℕ) (r : Option X) (N : Type 0) (P : ℕ → Type 0) → (option_map id r ≡ None → N) → ((q : ℕ) → option_map id r ≡ Some q → P q) → MatchOption r N (λ x. P (id x))
 matched_by id None N P n h = n refl

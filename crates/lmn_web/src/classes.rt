@@ -188,7 +188,7 @@ pub fn first_in(cells: &Cells, m: Cell, high: u64, arity: u64) -> Option<Cell>
     if is_filed(cells, m, CellKind::Atom) {
         match last_of(cells, m, high, arity) {
             None => None,
-            Some(last) => cells.link(last, CLASS_NEXT),
+            Some(last) => Some(cells.link(last, CLASS_NEXT).unwrap()),
         }
     } else {
         seek(cells, m, cells.link(m, ATOMS), high, arity)
@@ -209,7 +209,7 @@ pub fn next_in(cells: &Cells, m: Cell, c: Cell) -> Option<Cell>
         if is_last(cells, c) {
             None
         } else {
-            cells.link(c, CLASS_NEXT)
+            Some(cells.link(c, CLASS_NEXT).unwrap())
         }
     } else {
         seek(
@@ -365,9 +365,8 @@ pub fn file_last(cells: &mut Cells, m: Cell, c: Cell)
     match found.last {
         None => begin(cells, found.holder, found.word, c),
         Some(last) => {
-            if let Some(first) = cells.link(last, CLASS_NEXT) {
-                lengthen(cells, m, found.holder, found.word, last, first, c);
-            }
+            let first = cells.link(last, CLASS_NEXT).unwrap();
+            lengthen(cells, m, found.holder, found.word, last, first, c);
         }
     }
 }
@@ -378,9 +377,8 @@ pub fn file_before(cells: &mut Cells, m: Cell, d: Cell, c: Cell)
     ensures { IsFiledBefore (cells_by cells.old) (cells_by cells.new) (cell_id m) (cell_id d) (cell_id c) }
 {
     cells.whole();
-    if let Some(prev) = cells.link(d, CLASS_PREV) {
-        put_inside(cells, m, prev, d, c);
-    }
+    let prev = cells.link(d, CLASS_PREV).unwrap();
+    put_inside(cells, m, prev, d, c);
 }
 
 // The last one of a class leaves it.
@@ -410,14 +408,12 @@ pub fn unfile(cells: &mut Cells, m: Cell, c: Cell)
     ensures { IsUnfiled (cells_by cells.old) (cells_by cells.new) (cell_id m) (cell_id c) }
 {
     cells.whole();
-    if let Some(prev) = cells.link(c, CLASS_PREV) {
-        if let Some(next) = cells.link(c, CLASS_NEXT) {
-            if is_last(cells, c) {
-                unfile_last(cells, m, c, prev, next);
-            } else {
-                close(cells, prev, next);
-            }
-        }
+    let prev = cells.link(c, CLASS_PREV).unwrap();
+    let next = cells.link(c, CLASS_NEXT).unwrap();
+    if is_last(cells, c) {
+        unfile_last(cells, m, c, prev, next);
+    } else {
+        close(cells, prev, next);
     }
 }
 

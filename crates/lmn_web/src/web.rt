@@ -244,10 +244,7 @@ impl Web {
             let all = with_class w (label_class label) (arity_at w (cell_id c)) (cells_in w m Atom) in from (option_map cell_id result) all ≡ after (cell_id c) all }
         ensures there { (m : ℕ) → home_at (web_by self.now) (cell_id c) ≡ Some m → IfSome result (λ d. In (cell_id d) (cells_in (web_by self.now) m Atom)) }
     {
-        match self.home(c) {
-            Some(home) => next_in(&self.cells, home, c),
-            None => None,
-        }
+        next_in(&self.cells, self.home(c).unwrap(), c)
     }
 
     /// The first atom of a membrane with this label and so many ports.
@@ -273,10 +270,8 @@ impl Web {
             let all = with_label w label (arity_at w (cell_id c)) (cells_in w m Atom) in from (option_map cell_id result) all ≡ after (cell_id c) all }
         ensures there { (m : ℕ) → home_at (web_by self.now) (cell_id c) ≡ Some m → IfSome result (λ d. In (cell_id d) (cells_in (web_by self.now) m Atom)) }
     {
-        match self.home(c) {
-            Some(home) => self.seek(home, self.next_of_class(c), self.label(c), self.arity(c)),
-            None => None,
-        }
+        let home = self.home(c).unwrap();
+        self.seek(home, self.next_of_class(c), self.label(c), self.arity(c))
     }
 
     // Whether the cell has a label, if it has the class of that.
@@ -373,13 +368,12 @@ impl Web {
         requires kind { kind_at (web_by self.old) (cell_id c) ≡ kind }
         ensures { (m : ℕ) → home_at (web_by self.old) (cell_id c) ≡ Some m → web_by self.new ≡ unlinked (web_by self.old) m (cell_id c) }
     {
-        if let Some(home) = self.cells.link(c, HOME) {
-            let filed = is_filed(&self.cells, home, kind);
-            lists::unlink(&mut self.cells, home, first_link(kind), c);
-            let count = self.cells.count(home, count_place(kind));
-            self.cells.set_count(home, count_place(kind), count - 1);
-            leave_class(&mut self.cells, home, filed, c);
-        }
+        let home = self.cells.link(c, HOME).unwrap();
+        let filed = is_filed(&self.cells, home, kind);
+        lists::unlink(&mut self.cells, home, first_link(kind), c);
+        let count = self.cells.count(home, count_place(kind));
+        self.cells.set_count(home, count_place(kind), count - 1);
+        leave_class(&mut self.cells, home, filed, c);
     }
 
     /// The first cell of a list of a membrane that files no atoms leaves it.

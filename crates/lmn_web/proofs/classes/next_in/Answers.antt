@@ -9,10 +9,10 @@ use Rattle.lmn_web.specs.Webs.{list_in}
 use Rattle.lmn_base.specs.Lists.{In}
 use Rattle.lmn_web.specs.Classes.{key_in, is_key, lasts, of_class}
 use Rattle.lmn_web.proofs.ClassEnds.{even_alive, ends_last, files_membrane, last_ends}
-use Rattle.lmn_web.proofs.ListedLemmas.{goes_on}
+use Rattle.lmn_web.proofs.ListedLemmas.{goes_on, some_known}
 use Rattle.lmn_web.proofs.SeekLemmas.{next_some}
 use Rattle.lmn_web.proofs.Reclassing.{key_same}
-use Rattle.lmn_web.proofs.ClassReads.{class_goes_on}
+use Rattle.lmn_web.proofs.ClassReads.{class_goes_on, class_next}
 use Rattle.lmn_web.proofs.classes.next_in.Goals as goal
 use Rattle.lmn_store_heap.proofs.Filters.{filter_after}
 
@@ -37,6 +37,11 @@ number-requires-clause-there c = (each_in _ _ (cell_id c.args.c) c.requires.line
 pub number-requires-else-is_filed-clause-there : goal.number-requires-else-is_filed-clause-there
 number-requires-else-is_filed-clause-there c = (each_in _ _ (cell_id c.args.c) c.requires.line.cells c.requires.inside).0
 
+pub unwrap-requires : goal.unwrap-requires
+unwrap-requires c =
+    let f = cells_by c.args.cells.now in let m = cell_id c.args.m in let o = c.requires.classes (sym c.is_filed.ensures ∙ c.if-is_filed.true) in
+    some_known cell_id c.link.result (λ e. class_next f m (list_in f m Atom) o.0 o.1 (cell_id c.args.c) c.requires.inside (c.link.ensures ∙ e))
+
 pub returns-then-is_last : goal.returns-then-is_last
 returns-then-is_last c =
     let f = cells_by c.args.cells.now in let m = cell_id c.args.m in let x = cell_id c.args.c in let filed = sym c.is_filed.ensures ∙ c.if-is_filed.true in
@@ -49,7 +54,7 @@ returns-else-is_last c =
     let f = cells_by c.args.cells.now in let m = cell_id c.args.m in let x = cell_id c.args.c in let own = of_class f (key_in f x) (list_in f m Atom) in let filed = sym c.is_filed.ensures ∙ c.if-is_filed.true in
     let o = c.requires.classes filed in
     let inner : In x (lasts o.0) → ⊥ = λ i. (let z : true ≡ false = sym (last_ends f m (list_in f m Atom) o.0 o.1 c.requires.kinds (files_membrane f m filed) x i) ∙ sym c.is_last.ensures ∙ c.if-is_last.false in cc) in
-    subst (λ u. from u own ≡ after x own) c.link.ensures ((class_goes_on f m (list_in f m Atom) o.0 o.1 c.requires.line.once x c.requires.inside).1 inner)
+    subst (λ u. from u own ≡ after x own) (c.link.ensures ∙ ap (option_map cell_id) c.unwrap.ensures) ((class_goes_on f m (list_in f m Atom) o.0 o.1 c.requires.line.once x c.requires.inside).1 inner)
 
 pub seek-requires-clause-start : goal.seek-requires-clause-start
 seek-requires-clause-start c =

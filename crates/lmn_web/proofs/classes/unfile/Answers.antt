@@ -3,14 +3,15 @@ use Rattle.std.specs.Option.{option_map}
 use Rattle.lmn_web_cells.specs.Cells.{HeldCell, cells_by}
 use Rattle.lmn_web_cells.specs.CellIds.{cell_id}
 use Rattle.lmn_web.specs.Classes.{key_in, Refiled}
+use Rattle.lmn_web.proofs.ListedLemmas.{some_known}
 use Rattle.lmn_web.proofs.ClassSteps.{filed_closed, prev_alive, prev_some, next_alive, next_some, even_there}
 use Rattle.lmn_web.proofs.classes.unfile.Goals as goal
 
 pub link-requires-clause-there : goal.link-requires-clause-there
 link-requires-clause-there c = c.requires.2.there_c
 
-pub link-requires-in-Some-clause-there : goal.link-requires-in-Some-clause-there
-link-requires-in-Some-clause-there c = c.requires.2.there_c
+pub link-requires-2-clause-there : goal.link-requires-2-clause-there
+link-requires-2-clause-there c = c.requires.2.there_c
 
 pub is_last-requires-clause-there : goal.is_last-requires-clause-there
 is_last-requires-clause-there c = c.requires.2.there_c
@@ -22,32 +23,34 @@ pub unfile_last-requires-clause-last : goal.unfile_last-requires-clause-last
 unfile_last-requires-clause-last c = sym c.is_last.ensures ∙ c.if-is_last.true
 
 pub unfile_last-requires-clause-prev : goal.unfile_last-requires-clause-prev
-unfile_last-requires-clause-prev c = c.link.ensures ∙ ap (option_map cell_id) c.in-Some.is
+unfile_last-requires-clause-prev c = c.link.ensures ∙ ap (option_map cell_id) c.unwrap-prev.ensures
 
 pub unfile_last-requires-clause-next : goal.unfile_last-requires-clause-next
-unfile_last-requires-clause-next c = c.link-in-Some.ensures ∙ ap (option_map cell_id) c.in-Some-link.is
+unfile_last-requires-clause-next c = c.link-2.ensures ∙ ap (option_map cell_id) c.unwrap-next.ensures
 
 pub close-requires-clause-prev : goal.close-requires-clause-prev
 close-requires-clause-prev c =
     let r = c.requires in
-    prev_alive (cells_by c.args.cells.now) (cell_id c.args.m) (cell_id c.args.c) r.0 r.1 r.2 r.3 (cell_id c.in-Some.prev) (c.link.ensures ∙ ap (option_map cell_id) c.in-Some.is)
+    prev_alive (cells_by c.args.cells.now) (cell_id c.args.m) (cell_id c.args.c) r.0 r.1 r.2 r.3 (cell_id c.unwrap-prev.result) (c.link.ensures ∙ ap (option_map cell_id) c.unwrap-prev.ensures)
 
 pub close-requires-clause-next : goal.close-requires-clause-next
 close-requires-clause-next c =
     let r = c.requires in
-    next_alive (cells_by c.args.cells.now) (cell_id c.args.m) (cell_id c.args.c) r.0 r.1 r.2 r.3 (cell_id c.in-Some-link.next) (c.link-in-Some.ensures ∙ ap (option_map cell_id) c.in-Some-link.is)
+    next_alive (cells_by c.args.cells.now) (cell_id c.args.m) (cell_id c.args.c) r.0 r.1 r.2 r.3 (cell_id c.unwrap-next.result) (c.link-2.ensures ∙ ap (option_map cell_id) c.unwrap-next.ensures)
 
 pub returns-else-is_last : goal.returns-else-is_last
 returns-else-is_last c xs ls xs' a i one =
     let f = cells_by c.args.cells.now in let m = cell_id c.args.m in let x = cell_id c.args.c in
     subst (λ (g : ℕ → Option HeldCell). Refiled f g m xs (key_in f x) xs') (sym c.close.ensures)
-    (filed_closed f c.whole.ensures m x xs ls xs' a i one (cell_id c.in-Some.prev) (cell_id c.in-Some-link.next) (c.link.ensures ∙ ap (option_map cell_id) c.in-Some.is) (c.link-in-Some.ensures ∙ ap (option_map cell_id) c.in-Some-link.is)
+    (filed_closed f c.whole.ensures m x xs ls xs' a i one (cell_id c.unwrap-prev.result) (cell_id c.unwrap-next.result) (c.link.ensures ∙ ap (option_map cell_id) c.unwrap-prev.ensures) (c.link-2.ensures ∙ ap (option_map cell_id) c.unwrap-next.ensures)
     (sym c.is_last.ensures ∙ c.if-is_last.false))
 
-pub returns-in_default-link : goal.returns-in_default-link
-returns-in_default-link c xs t xs' a i one =
-    absurd (next_some (cells_by c.args.cells.now) (cell_id c.args.m) (cell_id c.args.c) xs t a i (c.link-in-Some.ensures ∙ ap (option_map cell_id) c.in_default-link.is))
+pub unwrap-prev-requires : goal.unwrap-prev-requires
+unwrap-prev-requires c =
+    let r = c.requires in
+    some_known cell_id c.link.result (λ e. prev_some (cells_by c.args.cells.now) (cell_id c.args.m) (cell_id c.args.c) r.0 r.1 r.2 r.3 (c.link.ensures ∙ e))
 
-pub returns-in_default : goal.returns-in_default
-returns-in_default c xs t xs' a i one =
-    absurd (prev_some (cells_by c.args.cells.now) (cell_id c.args.m) (cell_id c.args.c) xs t a i (c.link.ensures ∙ ap (option_map cell_id) c.in_default.is))
+pub unwrap-next-requires : goal.unwrap-next-requires
+unwrap-next-requires c =
+    let r = c.requires in
+    some_known cell_id c.link-2.result (λ e. next_some (cells_by c.args.cells.now) (cell_id c.args.m) (cell_id c.args.c) r.0 r.1 r.2 r.3 (c.link-2.ensures ∙ e))
