@@ -18,18 +18,18 @@ ATOMS = 3
 abbrev pub MEMBRANES : ℕ
 MEMBRANES = 5
 
--- of a membrane, to the first atom of a class
+-- of a membrane, to the last atom of a class
 abbrev pub LEADERS : ℕ
 LEADERS = 7
 
--- of an atom, to the next and the previous one of its class; that of the first one of a class leads to the last one
+-- of an atom, to the next and the previous one of its class; those of the last one and of the first one of a class lead to each other
 abbrev pub CLASS_NEXT : ℕ
 CLASS_NEXT = 3
 
 abbrev pub CLASS_PREV : ℕ
 CLASS_PREV = 4
 
--- of the first one of a class, to those of other classes, on its even and on its odd side
+-- of the last one of a class, to those of other classes, on its even and on its odd side; the first of them leads each other one to its membrane
 abbrev pub EVEN : ℕ
 EVEN = 5
 
