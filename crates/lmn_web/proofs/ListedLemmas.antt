@@ -295,6 +295,10 @@ pub some_known : {X : Type 0} (id : X → ℕ) (o : Option X) → (option_map id
 some_known id None n = absurd (n refl)
 some_known id (Some x) n = refl
 
+pub some_there : (o : Option ℕ) → (o ≡ None → ⊥) → IsSome o
+some_there None n = absurd (n refl)
+some_there (Some x) n = refl
+
 -- what an option that is told by numbers matches
 pub matched_by : {X : Type 0} (id : X → ℕ) (r : Option X) (N : Type 0) (P : ℕ → Type 0) → (option_map id r ≡ None → N) → ((q : ℕ) → option_map id r ≡ Some q → P q) → MatchOption r N (λ x. P (id x))
 matched_by id None N P n h = n refl

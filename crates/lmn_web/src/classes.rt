@@ -188,7 +188,7 @@ pub fn first_in(cells: &Cells, m: Cell, high: u64, arity: u64) -> Option<Cell>
     if is_filed(cells, m, CellKind::Atom) {
         match last_of(cells, m, high, arity) {
             None => None,
-            Some(last) => Some(cells.link(last, CLASS_NEXT).unwrap()),
+            Some(last) => Some(cells.target(last, CLASS_NEXT)),
         }
     } else {
         seek(cells, m, cells.link(m, ATOMS), high, arity)
@@ -209,7 +209,7 @@ pub fn next_in(cells: &Cells, m: Cell, c: Cell) -> Option<Cell>
         if is_last(cells, c) {
             None
         } else {
-            Some(cells.link(c, CLASS_NEXT).unwrap())
+            Some(cells.target(c, CLASS_NEXT))
         }
     } else {
         seek(
@@ -365,7 +365,7 @@ pub fn file_last(cells: &mut Cells, m: Cell, c: Cell)
     match found.last {
         None => begin(cells, found.holder, found.word, c),
         Some(last) => {
-            let first = cells.link(last, CLASS_NEXT).unwrap();
+            let first = cells.target(last, CLASS_NEXT);
             lengthen(cells, m, found.holder, found.word, last, first, c);
         }
     }
@@ -377,7 +377,7 @@ pub fn file_before(cells: &mut Cells, m: Cell, d: Cell, c: Cell)
     ensures { IsFiledBefore (cells_by cells.old) (cells_by cells.new) (cell_id m) (cell_id d) (cell_id c) }
 {
     cells.whole();
-    let prev = cells.link(d, CLASS_PREV).unwrap();
+    let prev = cells.target(d, CLASS_PREV);
     put_inside(cells, m, prev, d, c);
 }
 
@@ -408,8 +408,8 @@ pub fn unfile(cells: &mut Cells, m: Cell, c: Cell)
     ensures { IsUnfiled (cells_by cells.old) (cells_by cells.new) (cell_id m) (cell_id c) }
 {
     cells.whole();
-    let prev = cells.link(c, CLASS_PREV).unwrap();
-    let next = cells.link(c, CLASS_NEXT).unwrap();
+    let prev = cells.target(c, CLASS_PREV);
+    let next = cells.target(c, CLASS_NEXT);
     if is_last(cells, c) {
         unfile_last(cells, m, c, prev, next);
     } else {

@@ -196,6 +196,14 @@ impl Web {
         self.cells.link(c, HOME)
     }
 
+    // The membrane in a list of which the cell stands, where it stands in one.
+    fn home_of(&self, c: Cell) -> Cell
+        requires { IsSome (home_at (web_by self.now) (cell_id c)) }
+        ensures { home_at (web_by self.now) (cell_id c) ≡ Some (cell_id result) }
+    {
+        self.cells.target(c, HOME)
+    }
+
     /// The first cell of a kind in a membrane.
     pub fn first(&self, home: Cell, kind: CellKind) -> Option<Cell>
         requires { kind_at (web_by self.now) (cell_id home) ≡ Membrane }
@@ -244,7 +252,7 @@ impl Web {
             let all = with_class w (label_class label) (arity_at w (cell_id c)) (cells_in w m Atom) in from (option_map cell_id result) all ≡ after (cell_id c) all }
         ensures there { (m : ℕ) → home_at (web_by self.now) (cell_id c) ≡ Some m → IfSome result (λ d. In (cell_id d) (cells_in (web_by self.now) m Atom)) }
     {
-        next_in(&self.cells, self.home(c).unwrap(), c)
+        next_in(&self.cells, self.home_of(c), c)
     }
 
     /// The first atom of a membrane with this label and so many ports.
@@ -270,7 +278,7 @@ impl Web {
             let all = with_label w label (arity_at w (cell_id c)) (cells_in w m Atom) in from (option_map cell_id result) all ≡ after (cell_id c) all }
         ensures there { (m : ℕ) → home_at (web_by self.now) (cell_id c) ≡ Some m → IfSome result (λ d. In (cell_id d) (cells_in (web_by self.now) m Atom)) }
     {
-        let home = self.home(c).unwrap();
+        let home = self.home_of(c);
         self.seek(home, self.next_of_class(c), self.label(c), self.arity(c))
     }
 
@@ -368,7 +376,7 @@ impl Web {
         requires kind { kind_at (web_by self.old) (cell_id c) ≡ kind }
         ensures { (m : ℕ) → home_at (web_by self.old) (cell_id c) ≡ Some m → web_by self.new ≡ unlinked (web_by self.old) m (cell_id c) }
     {
-        let home = self.cells.link(c, HOME).unwrap();
+        let home = self.cells.target(c, HOME);
         let filed = is_filed(&self.cells, home, kind);
         lists::unlink(&mut self.cells, home, first_link(kind), c);
         let count = self.cells.count(home, count_place(kind));

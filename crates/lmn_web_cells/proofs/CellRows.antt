@@ -5,7 +5,7 @@ use Rattle.lmn_base.proofs.Numbers.{not_equal}
 use Rattle.lmn_base.proofs.Truth.{if_no}
 use Rattle.std.specs.Option.{option_map}
 use denote.RawPtr.{Ptr, null_ptr}
-use Rattle.lmn_web_cells.specs.Rows.{Item, blank, link, number, halves, halves_in, with_half, half_at, with_half_at, Row, items_in, with_items, place_ptr}
+use Rattle.lmn_web_cells.specs.Rows.{Item, blank, link, number, halves, halves_in, with_half, half_at, with_half_at, Row, items_in, with_items, place_ptr, IsStart, place_of}
 use Rattle.lmn_web_cells.specs.Cells.{HeldPort, HeldCell, pointer_to, link_to, link_items, both, first_items, port_and_mark, cell_items, cell_by, cells_by, IsShaped, IsLaid, AreLaid, HaveFewPorts, HaveLinks, links_of, numbers_of, ports_of, no_port, with_link, with_number, with_to, with_port, with_mark}
 use Rattle.lmn_store_heap.specs.Heap.{alter}
 use Rattle.lmn_store_heap.proofs.Listing.{alter_at, alter_away}
@@ -77,6 +77,11 @@ is_link (Some n) = inr (ap place_ptr (sym (place_again n)))
 pub leads : (x : Option ℕ) → led_by (pointer_to x) ≡ x
 leads None = refl
 leads (Some n) = ap Some (place_again n)
+
+-- the pointer to what is there is one to a place
+pub leads_there : (x : Option ℕ) (p : Ptr) → IsSome x → p ≡ pointer_to x → IsStart p × (x ≡ Some (place_of p))
+leads_there None p some e = cc
+leads_there (Some n) p some e = (subst IsStart (sym e) (ap place_ptr (sym (place_again n))), ap Some (sym (place_again n)) ∙ ap (λ (q : Ptr). Some (place_of q)) (sym e))
 
 -- the pointer that was read from a word
 pub pointer_read : (i : Item) (x : Option ℕ) (p : Ptr) → i ≡ link_to x → i ≡ link p → p ≡ pointer_to x

@@ -134,6 +134,18 @@ impl Cells {
         cell_from(self.rows.link(c.at, k))
     }
 
+    /// The cell to which a link that each cell has leads, where it is known to lead to one.
+    pub fn target(&self, c: Cell, k: usize) -> Cell
+        requires there { IsSome (cells_by self.now (cell_id c)) }
+        requires below { k < 7 }
+        requires leads { IsSome (slice_index_or (links_of (cells_by self.now (cell_id c))) k None) }
+        ensures { slice_index_or (links_of (cells_by self.now (cell_id c))) k None ≡ Some (cell_id result) }
+    {
+        Cell {
+            at: self.rows.link(c.at, k),
+        }
+    }
+
     /// A link that each cell has leads elsewhere.
     pub fn set_link(&mut self, c: Cell, k: usize, to: Option<Cell>)
         requires there { IsSome (cells_by self.old (cell_id c)) }

@@ -3,7 +3,7 @@ use Rattle.std.specs.Option.{option_map}
 use Rattle.lmn_web_cells.specs.Cells.{HeldCell, cells_by, IsLinkWord, link_of}
 use Rattle.lmn_web_cells.specs.CellIds.{cell_id}
 use Rattle.lmn_web.specs.Classes.{key_in, place_in, top, begun, lengthened, Refiled}
-use Rattle.lmn_web.proofs.ListedLemmas.{some_known}
+use Rattle.lmn_web.proofs.ListedLemmas.{some_there}
 use Rattle.lmn_web.proofs.ClassSteps.{last_found, first_alive, first_some, holder_alive, holder_word, filed_begun, filed_longer}
 use Rattle.lmn_web.proofs.classes.file_last.Goals as goal
 
@@ -32,8 +32,8 @@ begin-requires-clause-word c =
     let link : link_of c.find-found.result.word ≡ (place_in f p m t).link = found.1 ∙ ap (λ q. (place_in f q m t).link) kp in
     subst (λ z. IsLinkWord (f z) c.find-found.result.word) (sym hold) (holder_word f m x r.0 t a p c.find-found.result.word c.find-found.ensures.word link)
 
-pub link-requires-clause-there : goal.link-requires-clause-there
-link-requires-clause-there c =
+pub target-first-requires-clause-there : goal.target-first-requires-clause-there
+target-first-requires-clause-there c =
     let f = cells_by c.args.cells.now in let m = cell_id c.args.m in let x = cell_id c.args.c in let p = key_in f x in
     let kp : ◌≡◌ {A = ℕ × ℕ} (c.number-high.result, c.number-arity.result) p = λ i. (c.number-high.ensures i, c.number-arity.ensures i) in
     let r = c.requires in let t = r.1 in let a = r.2 in
@@ -76,7 +76,7 @@ lengthen-requires-clause-first c =
     let r = c.requires in let t = r.1 in let a = r.2 in
     let l = cell_id c.in-Some.last in
     let hung : top (place_in f p m t).tree ≡ Some l = ap (λ q. top (place_in f q m t).tree) (sym kp) ∙ sym (c.find-found.ensures.place t a.classed.tree).2 ∙ ap (option_map cell_id) c.in-Some.is in
-    first_alive f m x r.0 t a p l hung (cell_id c.unwrap-first.result) (c.link.ensures ∙ ap (option_map cell_id) c.unwrap-first.ensures)
+    first_alive f m x r.0 t a p l hung (cell_id c.target-first.result) (c.target-first.ensures)
 
 pub returns-in-None : goal.returns-in-None
 returns-in-None c xs t xs' a fresh one =
@@ -97,14 +97,14 @@ returns-in-Some c xs t xs' a fresh one =
     let link : link_of c.find-found.result.word ≡ (place_in f p m t).link = found.1 ∙ ap (λ q. (place_in f q m t).link) kp in
     let l = cell_id c.in-Some.last in
     let hung : top (place_in f p m t).tree ≡ Some l = ap (λ q. top (place_in f q m t).tree) (sym kp) ∙ sym (c.find-found.ensures.place t a.classed.tree).2 ∙ ap (option_map cell_id) c.in-Some.is in
-    let d = cell_id c.unwrap-first.result in
-    subst (λ (g : ℕ → Option HeldCell). Refiled f g m (x ∷ xs) p xs') (sym (c.lengthen.ensures ∙ (λ i. lengthened f m (hold i) (link i) l d x))) (filed_longer f c.whole.ensures m x xs t xs' a fresh one l d hung (c.link.ensures ∙ ap (option_map cell_id) c.unwrap-first.ensures))
+    let d = cell_id c.target-first.result in
+    subst (λ (g : ℕ → Option HeldCell). Refiled f g m (x ∷ xs) p xs') (sym (c.lengthen.ensures ∙ (λ i. lengthened f m (hold i) (link i) l d x))) (filed_longer f c.whole.ensures m x xs t xs' a fresh one l d hung (c.target-first.ensures))
 
-pub unwrap-first-requires : goal.unwrap-first-requires
-unwrap-first-requires c =
+pub target-first-requires-clause-leads : goal.target-first-requires-clause-leads
+target-first-requires-clause-leads c =
     let r = c.requires in let t = r.1 in let a = r.2 in
     let f = cells_by c.args.cells.now in let m = cell_id c.args.m in let x = cell_id c.args.c in let p = key_in f x in
     let kp : ◌≡◌ {A = ℕ × ℕ} (c.number-high.result, c.number-arity.result) p = λ i. (c.number-high.ensures i, c.number-arity.ensures i) in
     let l = cell_id c.in-Some.last in
     let hung : top (place_in f p m t).tree ≡ Some l = ap (λ q. top (place_in f q m t).tree) (sym kp) ∙ sym (c.find-found.ensures.place t a.classed.tree).2 ∙ ap (option_map cell_id) c.in-Some.is in
-    some_known cell_id c.link.result (λ e. first_some f m x r.0 t a p l hung (c.link.ensures ∙ e))
+    some_there _ (λ e. first_some f m x r.0 t a p l hung e)

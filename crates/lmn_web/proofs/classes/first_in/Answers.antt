@@ -10,7 +10,7 @@ use Rattle.lmn_web.specs.declared.kind.CellKind.TheVariants.{Atom}
 use Rattle.lmn_web.specs.Webs.{list_in}
 use Rattle.lmn_web.specs.Classes.{of_class, place_in, top}
 use Rattle.lmn_web.proofs.ClassPlaces.{class_none, last_in}
-use Rattle.lmn_web.proofs.ListedLemmas.{begins_list, from_in, if_some, some_known}
+use Rattle.lmn_web.proofs.ListedLemmas.{begins_list, from_in, if_some, some_there}
 use Rattle.lmn_web.proofs.ClassReads.{class_begins, class_first}
 use Rattle.lmn_web.proofs.classes.first_in.Goals as goal
 
@@ -18,8 +18,8 @@ pub last_of-requires-clause-tree : goal.last_of-requires-clause-tree
 last_of-requires-clause-tree c =
     let o = c.requires.classes (sym c.is_filed.ensures ∙ c.if-is_filed.true) in (o.0, o.1.tree, o.1.sorted)
 
-pub link-requires-clause-there : goal.link-requires-clause-there
-link-requires-clause-there c =
+pub target-requires-clause-there : goal.target-requires-clause-there
+target-requires-clause-there c =
     let f = cells_by c.args.cells.now in let m = cell_id c.args.m in let p : ℕ × ℕ = (c.args.high, c.args.arity) in
     let o = c.requires.classes (sym c.is_filed.ensures ∙ c.if-is_filed.true) in
     let l = cell_id c.in-Some.last in
@@ -34,12 +34,12 @@ returns-in-None c =
     let no_m : In m (list_in f m Atom) → ⊥ = λ i. (each_in _ _ m c.requires.line.cells i).1 refl in
     sym (class_none f m (list_in f m Atom) o.0 o.1 no_m p (sym (c.last_of.ensures o.0 o.1.tree) ∙ ap (option_map cell_id) c.in-None.is))
 
-pub unwrap-requires : goal.unwrap-requires
-unwrap-requires c =
+pub target-requires-clause-leads : goal.target-requires-clause-leads
+target-requires-clause-leads c =
     let f = cells_by c.args.cells.now in let m = cell_id c.args.m in let p : ℕ × ℕ = (c.args.high, c.args.arity) in
     let o = c.requires.classes (sym c.is_filed.ensures ∙ c.if-is_filed.true) in
     let no_m : In m (list_in f m Atom) → ⊥ = λ i. (each_in _ _ m c.requires.line.cells i).1 refl in
-    some_known cell_id c.link.result (λ e. class_first f m (list_in f m Atom) o.0 o.1 no_m p (cell_id c.in-Some.last) (sym (c.last_of.ensures o.0 o.1.tree) ∙ ap (option_map cell_id) c.in-Some.is) (c.link.ensures ∙ e))
+    some_there _ (λ e. class_first f m (list_in f m Atom) o.0 o.1 no_m p (cell_id c.in-Some.last) (sym (c.last_of.ensures o.0 o.1.tree) ∙ ap (option_map cell_id) c.in-Some.is) e)
 
 pub returns-in-Some : goal.returns-in-Some
 returns-in-Some c =
@@ -47,15 +47,15 @@ returns-in-Some c =
     let o = c.requires.classes (sym c.is_filed.ensures ∙ c.if-is_filed.true) in
     let l = cell_id c.in-Some.last in let own = of_class f p (list_in f m Atom) in
     let no_m : In m (list_in f m Atom) → ⊥ = λ i. (each_in _ _ m c.requires.line.cells i).1 refl in
-    subst (λ u. from u own ≡ own) (c.link.ensures ∙ ap (option_map cell_id) c.unwrap.ensures) (class_begins f m (list_in f m Atom) o.0 o.1 no_m p l (sym (c.last_of.ensures o.0 o.1.tree) ∙ ap (option_map cell_id) c.in-Some.is))
+    subst (λ u. from u own ≡ own) (c.target.ensures) (class_begins f m (list_in f m Atom) o.0 o.1 no_m p l (sym (c.last_of.ensures o.0 o.1.tree) ∙ ap (option_map cell_id) c.in-Some.is))
 
 pub seek-requires-clause-start : goal.seek-requires-clause-start
 seek-requires-clause-start c =
     let f = cells_by c.args.cells.now in let m = cell_id c.args.m in let all = list_in f m Atom in
-    if_some cell_id c.link-else-is_filed.result (λ q. In q all) (λ q e. from_in (link_in f m 3) all (begins_list f m 3 all c.requires.line) q (c.link-else-is_filed.ensures ∙ e))
+    if_some cell_id c.link.result (λ q. In q all) (λ q e. from_in (link_in f m 3) all (begins_list f m 3 all c.requires.line) q (c.link.ensures ∙ e))
 
 pub returns-else-is_filed : goal.returns-else-is_filed
 returns-else-is_filed c =
     let f = cells_by c.args.cells.now in let m = cell_id c.args.m in let all = list_in f m Atom in let p : ℕ × ℕ = (c.args.high, c.args.arity) in
-    let begins : from (option_map cell_id c.link-else-is_filed.result) all ≡ all = subst (λ o. from o all ≡ all) c.link-else-is_filed.ensures (begins_list f m 3 all c.requires.line) in
+    let begins : from (option_map cell_id c.link.result) all ≡ all = subst (λ o. from o all ≡ all) c.link.ensures (begins_list f m 3 all c.requires.line) in
     c.seek.ensures ∙ ap (of_class f p) begins

@@ -20,42 +20,42 @@ use Rattle.lmn_store_heap.proofs.Filters.{in_filter}
 
 pub next_in-requires-clause-there : goal.next_in-requires-clause-there
 next_in-requires-clause-there c =
-    let f = cells_by c.self.inside.cells in let x = cell_id c.args.c in let W = c.self.invariant in let n = cell_id c.unwrap.result in
-    let home : link_in f x HOME ≡ Some n = sym (home_same f (list_in f) x) ∙ ap (λ (z : List Row). home_at (web_by z) x) c.self.view_is ∙ c.home.ensures ∙ ap (option_map cell_id) c.unwrap.ensures in
+    let f = cells_by c.self.inside.cells in let x = cell_id c.args.c in let W = c.self.invariant in let n = cell_id c.home_of.result in
+    let home : link_in f x HOME ≡ Some n = sym (home_same f (list_in f) x) ∙ ap (λ (z : List Row). home_at (web_by z) x) c.self.view_is ∙ c.home_of.ensures in
     (W.web.listed.homes n x home).0
 
 pub next_in-requires-clause-membrane : goal.next_in-requires-clause-membrane
 next_in-requires-clause-membrane c sure =
-    let f = cells_by c.self.inside.cells in let x = cell_id c.args.c in let W = c.self.invariant in let n = cell_id c.unwrap.result in
-    let home : link_in f x HOME ≡ Some n = sym (home_same f (list_in f) x) ∙ ap (λ (z : List Row). home_at (web_by z) x) c.self.view_is ∙ c.home.ensures ∙ ap (option_map cell_id) c.unwrap.ensures in
+    let f = cells_by c.self.inside.cells in let x = cell_id c.args.c in let W = c.self.invariant in let n = cell_id c.home_of.result in
+    let home : link_in f x HOME ≡ Some n = sym (home_same f (list_in f) x) ∙ ap (λ (z : List Row). home_at (web_by z) x) c.self.view_is ∙ c.home_of.ensures in
     filed_membrane f _ n W.web (W.web.listed.homes n x home).0 sure
 
 pub next_in-requires-clause-kinds : goal.next_in-requires-clause-kinds
-next_in-requires-clause-kinds c z i = c.self.invariant.web.listed.kinds (cell_id c.unwrap.result) z Atom i
+next_in-requires-clause-kinds c z i = c.self.invariant.web.listed.kinds (cell_id c.home_of.result) z Atom i
 
 pub next_in-requires-clause-line : goal.next_in-requires-clause-line
 next_in-requires-clause-line c =
-    let f = cells_by c.self.inside.cells in let x = cell_id c.args.c in let W = c.self.invariant in let n = cell_id c.unwrap.result in
-    let home : link_in f x HOME ≡ Some n = sym (home_same f (list_in f) x) ∙ ap (λ (z : List Row). home_at (web_by z) x) c.self.view_is ∙ c.home.ensures ∙ ap (option_map cell_id) c.unwrap.ensures in
+    let f = cells_by c.self.inside.cells in let x = cell_id c.args.c in let W = c.self.invariant in let n = cell_id c.home_of.result in
+    let home : link_in f x HOME ≡ Some n = sym (home_same f (list_in f) x) ∙ ap (λ (z : List Row). home_at (web_by z) x) c.self.view_is ∙ c.home_of.ensures in
     let atom : cell_kind f x ≡ Atom = sym (kind_same f (list_in f) x) ∙ ap (λ (z : List Row). kind_at (web_by z) x) c.self.view_is ∙ c.requires.atom in
     let among : In x (list_in f n Atom) = subst (λ k. In x (list_in f n k)) atom (W.web.listed.homes n x home).1 in
     own_line f (list_in f) W.web.listed n x Atom among
 
 pub next_in-requires-clause-inside : goal.next_in-requires-clause-inside
 next_in-requires-clause-inside c =
-    let f = cells_by c.self.inside.cells in let x = cell_id c.args.c in let W = c.self.invariant in let n = cell_id c.unwrap.result in
-    let home : link_in f x HOME ≡ Some n = sym (home_same f (list_in f) x) ∙ ap (λ (z : List Row). home_at (web_by z) x) c.self.view_is ∙ c.home.ensures ∙ ap (option_map cell_id) c.unwrap.ensures in
+    let f = cells_by c.self.inside.cells in let x = cell_id c.args.c in let W = c.self.invariant in let n = cell_id c.home_of.result in
+    let home : link_in f x HOME ≡ Some n = sym (home_same f (list_in f) x) ∙ ap (λ (z : List Row). home_at (web_by z) x) c.self.view_is ∙ c.home_of.ensures in
     let atom : cell_kind f x ≡ Atom = sym (kind_same f (list_in f) x) ∙ ap (λ (z : List Row). kind_at (web_by z) x) c.self.view_is ∙ c.requires.atom in
     let among : In x (list_in f n Atom) = subst (λ k. In x (list_in f n k)) atom (W.web.listed.homes n x home).1 in
     among
 
 pub next_in-requires-clause-classes : goal.next_in-requires-clause-classes
-next_in-requires-clause-classes c sure = c.self.invariant.classed.classes (cell_id c.unwrap.result) sure
+next_in-requires-clause-classes c sure = c.self.invariant.classed.classes (cell_id c.home_of.result) sure
 
 pub returns-clause-list : goal.returns-clause-list
 returns-clause-list c m label at named =
-    let f = cells_by c.self.inside.cells in let x = cell_id c.args.c in let W = c.self.invariant in let n = cell_id c.unwrap.result in let r = option_map cell_id c.next_in.result in
-    let own : home_at (web_by c.args.self.now) x ≡ Some n = c.home.ensures ∙ ap (option_map cell_id) c.unwrap.ensures in
+    let f = cells_by c.self.inside.cells in let x = cell_id c.args.c in let W = c.self.invariant in let n = cell_id c.home_of.result in let r = option_map cell_id c.next_in.result in
+    let own : home_at (web_by c.args.self.now) x ≡ Some n = c.home_of.ensures in
     let same : n ≡ m = let e : Some n ≡ Some m = sym own ∙ at in cc in
     let cells = list_in f m Atom in
     let on : from r (of_class f (key_in f x) cells) ≡ after x (of_class f (key_in f x) cells) = subst (λ n. from r (of_class f (key_in f x) (list_in f n Atom)) ≡ after x (of_class f (key_in f x) (list_in f n Atom))) same c.next_in.ensures in
@@ -66,8 +66,8 @@ returns-clause-list c m label at named =
 
 pub returns-clause-there : goal.returns-clause-there
 returns-clause-there c m at =
-    let f = cells_by c.self.inside.cells in let x = cell_id c.args.c in let W = c.self.invariant in let n = cell_id c.unwrap.result in let r = option_map cell_id c.next_in.result in
-    let own : home_at (web_by c.args.self.now) x ≡ Some n = c.home.ensures ∙ ap (option_map cell_id) c.unwrap.ensures in
+    let f = cells_by c.self.inside.cells in let x = cell_id c.args.c in let W = c.self.invariant in let n = cell_id c.home_of.result in let r = option_map cell_id c.next_in.result in
+    let own : home_at (web_by c.args.self.now) x ≡ Some n = c.home_of.ensures in
     let same : n ≡ m = let e : Some n ≡ Some m = sym own ∙ at in cc in
     let cells = list_in f m Atom in
     let on : from r (of_class f (key_in f x) cells) ≡ after x (of_class f (key_in f x) cells) = subst (λ n. from r (of_class f (key_in f x) (list_in f n Atom)) ≡ after x (of_class f (key_in f x) (list_in f n Atom))) same c.next_in.ensures in

@@ -11,16 +11,16 @@ use Rattle.lmn_store_heap.proofs.Filters.{filter_after}
 
 pub seek-requires : goal.seek-requires
 seek-requires c =
-    let w = web_by c.args.self.now in let m = cell_id c.unwrap-home.result in let x = cell_id c.args.c in let cells = cells_in w m Atom in
-    let home : home_at w x ≡ Some m = c.home.ensures ∙ ap (option_map cell_id) c.unwrap-home.ensures in
+    let w = web_by c.args.self.now in let m = cell_id c.home_of-home.result in let x = cell_id c.args.c in let cells = cells_in w m Atom in
+    let home : home_at w x ≡ Some m = c.home_of-home.ensures in
     let class = label_class c.label.result in let all = with_class w class c.arity.result cells in let r = option_map cell_id c.next_of_class.result in
     let next : from r all ≡ after x all = subst (λ n. from r (with_class w class n cells) ≡ after x (with_class w class n cells)) (sym c.arity.ensures) (c.next_of_class.ensures.list m c.label.result home c.label.ensures) in
     next_some cell_id c.next_of_class.result x all next
 
 pub returns-clause-list : goal.returns-clause-list
 returns-clause-list c n label at named =
-    let w = web_by c.args.self.now in let m = cell_id c.unwrap-home.result in let x = cell_id c.args.c in let cells = cells_in w m Atom in
-    let home : home_at w x ≡ Some m = c.home.ensures ∙ ap (option_map cell_id) c.unwrap-home.ensures in
+    let w = web_by c.args.self.now in let m = cell_id c.home_of-home.result in let x = cell_id c.args.c in let cells = cells_in w m Atom in
+    let home : home_at w x ≡ Some m = c.home_of-home.ensures in
     let class = label_class c.label.result in let all = with_class w class c.arity.result cells in let r = option_map cell_id c.next_of_class.result in
     let next : from r all ≡ after x all = subst (λ n. from r (with_class w class n cells) ≡ after x (with_class w class n cells)) (sym c.arity.ensures) (c.next_of_class.ensures.list m c.label.result home c.label.ensures) in
     let same : n ≡ m = let e : Some n ≡ Some m = sym at ∙ home in cc in
@@ -35,7 +35,7 @@ returns-clause-list c n label at named =
 
 pub returns-clause-there : goal.returns-clause-there
 returns-clause-there c n at =
-    let w = web_by c.args.self.now in let m = cell_id c.unwrap-home.result in let x = cell_id c.args.c in
-    let home : home_at w x ≡ Some m = c.home.ensures ∙ ap (option_map cell_id) c.unwrap-home.ensures in
+    let w = web_by c.args.self.now in let m = cell_id c.home_of-home.result in let x = cell_id c.args.c in
+    let home : home_at w x ≡ Some m = c.home_of-home.ensures in
     let same : n ≡ m = let e : Some n ≡ Some m = sym at ∙ home in cc in
     subst (λ z. IfSome c.seek.result (λ d. In (cell_id d) (cells_in w z Atom))) (sym same) c.seek.ensures.there

@@ -1,5 +1,4 @@
-use Rattle.std.proofs.Common.{◌≡◌, true, ◌-◌, List, Some, None, IsSome, refl, sym, ap, subst, ◌∙◌, arith}
-use Rattle.std.specs.Option.{option_map}
+use Rattle.std.proofs.Common.{◌≡◌, true, ◌-◌, ℕ, List, Option, Some, None, IsSome, refl, sym, ap, subst, ◌∙◌, arith}
 use Rattle.lmn_base.specs.Lists.{In}
 use Rattle.lmn_store_heap.specs.Lists.{without}
 use Rattle.lmn_web_cells.specs.Rows.{Row}
@@ -16,75 +15,80 @@ use Rattle.lmn_web.proofs.FilterLemmas.{one_without}
 use Rattle.lmn_web.proofs.Filing.{Leaves, unlinks_left, tree, may_leave, left_web, left_list}
 use Rattle.lmn_web.proofs.web.Web.unlink.Goals as goal
 
-pub link-requires-clause-there : goal.link-requires-clause-there
-link-requires-clause-there c =
+pub target-home-requires-clause-there : goal.target-home-requires-clause-there
+target-home-requires-clause-there c =
     let f = cells_by c.self.inside.cells in let x = cell_id c.args.c in
     some_home f (list_in f) x (subst (λ (z : List Row). IsSome (home_at (web_by z) x)) (sym c.self.view_is) c.requires.listed)
 
+pub target-home-requires-clause-leads : goal.target-home-requires-clause-leads
+target-home-requires-clause-leads c =
+    let f = cells_by c.self.inside.cells in let x = cell_id c.args.c in
+    subst (λ (o : Option ℕ). IsSome o) (home_same f (list_in f) x) (subst (λ (z : List Row). IsSome (home_at (web_by z) x)) (sym c.self.view_is) c.requires.listed)
+
 pub is_filed-filed-requires : goal.is_filed-filed-requires
 is_filed-filed-requires c =
-    let f = cells_by c.self.inside.cells in let m = cell_id c.unwrap-home.result in let x = cell_id c.args.c in let w = c.self.invariant.web in
-    let home : link_in f x HOME ≡ Some m = c.link.ensures ∙ ap (option_map cell_id) c.unwrap-home.ensures in
+    let f = cells_by c.self.inside.cells in let m = cell_id c.target-home.result in let x = cell_id c.args.c in let w = c.self.invariant.web in
+    let home : link_in f x HOME ≡ Some m = c.target-home.ensures in
     (w.listed.homes m x home).0
 
 pub unlink-requires-clause-home : goal.unlink-requires-clause-home
 unlink-requires-clause-home c =
-    let f = cells_by c.self.inside.cells in let m = cell_id c.unwrap-home.result in let x = cell_id c.args.c in let w = c.self.invariant.web in
-    let home : link_in f x HOME ≡ Some m = c.link.ensures ∙ ap (option_map cell_id) c.unwrap-home.ensures in
+    let f = cells_by c.self.inside.cells in let m = cell_id c.target-home.result in let x = cell_id c.args.c in let w = c.self.invariant.web in
+    let home : link_in f x HOME ≡ Some m = c.target-home.ensures in
     subst (λ e. IsHome f m e) (sym c.first_link.ensures) record { there = (w.listed.homes m x home).0; behind = link_behind c.args.kind; below = link_below c.args.kind }
 
 pub unlink-requires-clause-list : goal.unlink-requires-clause-list
 unlink-requires-clause-list c =
-    let f = cells_by c.self.inside.cells in let m = cell_id c.unwrap-home.result in let x = cell_id c.args.c in let w = c.self.invariant.web in
-    let home : link_in f x HOME ≡ Some m = c.link.ensures ∙ ap (option_map cell_id) c.unwrap-home.ensures in
+    let f = cells_by c.self.inside.cells in let m = cell_id c.target-home.result in let x = cell_id c.args.c in let w = c.self.invariant.web in
+    let home : link_in f x HOME ≡ Some m = c.target-home.ensures in
     let kind : c.args.kind ≡ cell_kind f x = sym c.requires.kind ∙ ap (λ (z : List Row). kind_at (web_by z) x) (sym c.self.view_is) ∙ kind_same f (list_in f) x in
     let h = w.listed.homes m x home in
     (list_in f m (cell_kind f x), subst (λ e. Line f m e (list_in f m (cell_kind f x))) (sym (c.first_link.ensures ∙ ap list_link kind)) (own_line f (list_in f) w.listed m x (cell_kind f x) h.1), h.1)
 
 pub count-count-requires-clause-there : goal.count-count-requires-clause-there
 count-count-requires-clause-there c =
-    let f = cells_by c.self.inside.cells in let m = cell_id c.unwrap-home.result in let x = cell_id c.args.c in let w = c.self.invariant.web in
-    let home : link_in f x HOME ≡ Some m = c.link.ensures ∙ ap (option_map cell_id) c.unwrap-home.ensures in
+    let f = cells_by c.self.inside.cells in let m = cell_id c.target-home.result in let x = cell_id c.args.c in let w = c.self.invariant.web in
+    let home : link_in f x HOME ≡ Some m = c.target-home.ensures in
     let kind : c.args.kind ≡ cell_kind f x = sym c.requires.kind ∙ ap (λ (z : List Row). kind_at (web_by z) x) (sym c.self.view_is) ∙ kind_same f (list_in f) x in
     let p = count_number (cell_kind f x) in
     unlinked_there f (cells_by c.unlink.new.cells) (cells_by c.unlink.new.cells) _ w m x c.first_link.result p p (number_in (cells_by c.unlink.new.cells) m p) home (c.first_link.ensures ∙ ap list_link kind) refl refl refl (c.unlink.ensures.unlinked, c.unlink.ensures.list, c.unlink.ensures.others)
 
 pub count-count-requires-clause-numbers : goal.count-count-requires-clause-numbers
 count-count-requires-clause-numbers c =
-    let f = cells_by c.self.inside.cells in let m = cell_id c.unwrap-home.result in let x = cell_id c.args.c in let w = c.self.invariant.web in
-    let home : link_in f x HOME ≡ Some m = c.link.ensures ∙ ap (option_map cell_id) c.unwrap-home.ensures in
+    let f = cells_by c.self.inside.cells in let m = cell_id c.target-home.result in let x = cell_id c.args.c in let w = c.self.invariant.web in
+    let home : link_in f x HOME ≡ Some m = c.target-home.ensures in
     let kind : c.args.kind ≡ cell_kind f x = sym c.requires.kind ∙ ap (λ (z : List Row). kind_at (web_by z) x) (sym c.self.view_is) ∙ kind_same f (list_in f) x in
     let p = count_number (cell_kind f x) in
     unlinked_eight f (cells_by c.unlink.new.cells) (cells_by c.unlink.new.cells) _ w m x c.first_link.result p p (number_in (cells_by c.unlink.new.cells) m p) home (c.first_link.ensures ∙ ap list_link kind) refl refl refl (c.unlink.ensures.unlinked, c.unlink.ensures.list, c.unlink.ensures.others)
 
 pub set_count-requires-clause-there : goal.set_count-requires-clause-there
 set_count-requires-clause-there c =
-    let f = cells_by c.self.inside.cells in let m = cell_id c.unwrap-home.result in let x = cell_id c.args.c in let w = c.self.invariant.web in
-    let home : link_in f x HOME ≡ Some m = c.link.ensures ∙ ap (option_map cell_id) c.unwrap-home.ensures in
+    let f = cells_by c.self.inside.cells in let m = cell_id c.target-home.result in let x = cell_id c.args.c in let w = c.self.invariant.web in
+    let home : link_in f x HOME ≡ Some m = c.target-home.ensures in
     let kind : c.args.kind ≡ cell_kind f x = sym c.requires.kind ∙ ap (λ (z : List Row). kind_at (web_by z) x) (sym c.self.view_is) ∙ kind_same f (list_in f) x in
     let p = count_number (cell_kind f x) in
     unlinked_there f (cells_by c.unlink.new.cells) (cells_by c.unlink.new.cells) _ w m x c.first_link.result p p (number_in (cells_by c.unlink.new.cells) m p) home (c.first_link.ensures ∙ ap list_link kind) refl refl refl (c.unlink.ensures.unlinked, c.unlink.ensures.list, c.unlink.ensures.others)
 
 pub set_count-requires-clause-numbers : goal.set_count-requires-clause-numbers
 set_count-requires-clause-numbers c =
-    let f = cells_by c.self.inside.cells in let m = cell_id c.unwrap-home.result in let x = cell_id c.args.c in let w = c.self.invariant.web in
-    let home : link_in f x HOME ≡ Some m = c.link.ensures ∙ ap (option_map cell_id) c.unwrap-home.ensures in
+    let f = cells_by c.self.inside.cells in let m = cell_id c.target-home.result in let x = cell_id c.args.c in let w = c.self.invariant.web in
+    let home : link_in f x HOME ≡ Some m = c.target-home.ensures in
     let kind : c.args.kind ≡ cell_kind f x = sym c.requires.kind ∙ ap (λ (z : List Row). kind_at (web_by z) x) (sym c.self.view_is) ∙ kind_same f (list_in f) x in
     let p = count_number (cell_kind f x) in
     unlinked_eight f (cells_by c.unlink.new.cells) (cells_by c.unlink.new.cells) _ w m x c.first_link.result p p (number_in (cells_by c.unlink.new.cells) m p) home (c.first_link.ensures ∙ ap list_link kind) refl refl refl (c.unlink.ensures.unlinked, c.unlink.ensures.list, c.unlink.ensures.others)
 
 pub overflow_sub-count : goal.overflow_sub-count
 overflow_sub-count c =
-    let f = cells_by c.self.inside.cells in let m = cell_id c.unwrap-home.result in let x = cell_id c.args.c in let w = c.self.invariant.web in
-    let home : link_in f x HOME ≡ Some m = c.link.ensures ∙ ap (option_map cell_id) c.unwrap-home.ensures in
+    let f = cells_by c.self.inside.cells in let m = cell_id c.target-home.result in let x = cell_id c.args.c in let w = c.self.invariant.web in
+    let home : link_in f x HOME ≡ Some m = c.target-home.ensures in
     let kind : c.args.kind ≡ cell_kind f x = sym c.requires.kind ∙ ap (λ (z : List Row). kind_at (web_by z) x) (sym c.self.view_is) ∙ kind_same f (list_in f) x in
     let some = unlinked_some f (cells_by c.unlink.new.cells) (cells_by c.unlink.new.cells) _ w m x c.first_link.result c.count_place.result c.count_place.result c.count-count.result home (c.first_link.ensures ∙ ap list_link kind) (c.count_place.ensures ∙ ap count_number kind) (c.count_place.ensures ∙ ap count_number kind) c.count-count.ensures (c.unlink.ensures.unlinked, c.unlink.ensures.list, c.unlink.ensures.others) in
     omega (arith, some)
 
 pub leave_class-requires : goal.leave_class-requires
 leave_class-requires c sure =
-    let f = cells_by c.self.inside.cells in let m = cell_id c.unwrap-home.result in let x = cell_id c.args.c in let W = c.self.invariant in let w = W.web in
-    let home : link_in f x HOME ≡ Some m = c.link.ensures ∙ ap (option_map cell_id) c.unwrap-home.ensures in
+    let f = cells_by c.self.inside.cells in let m = cell_id c.target-home.result in let x = cell_id c.args.c in let W = c.self.invariant in let w = W.web in
+    let home : link_in f x HOME ≡ Some m = c.target-home.ensures in
     let kind : c.args.kind ≡ cell_kind f x = sym c.requires.kind ∙ ap (λ (z : List Row). kind_at (web_by z) x) (sym c.self.view_is) ∙ kind_same f (list_in f) x in
     let filed : c.is_filed-filed.result ≡ files f m (cell_kind f x) = c.is_filed-filed.ensures ∙ ap (files f m) kind in
     let own = list_in f m (cell_kind f x) in let F = cells_by c.set_count.new.self in let xs = without x own in
@@ -99,8 +103,8 @@ leave_class-requires c sure =
 
 pub invariant_of-self : goal.invariant_of-self
 invariant_of-self c =
-    let f = cells_by c.self.inside.cells in let m = cell_id c.unwrap-home.result in let x = cell_id c.args.c in let W = c.self.invariant in let w = W.web in
-    let home : link_in f x HOME ≡ Some m = c.link.ensures ∙ ap (option_map cell_id) c.unwrap-home.ensures in
+    let f = cells_by c.self.inside.cells in let m = cell_id c.target-home.result in let x = cell_id c.args.c in let W = c.self.invariant in let w = W.web in
+    let home : link_in f x HOME ≡ Some m = c.target-home.ensures in
     let kind : c.args.kind ≡ cell_kind f x = sym c.requires.kind ∙ ap (λ (z : List Row). kind_at (web_by z) x) (sym c.self.view_is) ∙ kind_same f (list_in f) x in
     let filed : c.is_filed-filed.result ≡ files f m (cell_kind f x) = c.is_filed-filed.ensures ∙ ap (files f m) kind in
     let own = list_in f m (cell_kind f x) in let F = cells_by c.set_count.new.self in let xs = without x own in
@@ -115,8 +119,8 @@ invariant_of-self c =
 
 pub returns : goal.returns
 returns c n at =
-    let f = cells_by c.self.inside.cells in let m = cell_id c.unwrap-home.result in let x = cell_id c.args.c in let W = c.self.invariant in let w = W.web in
-    let home : link_in f x HOME ≡ Some m = c.link.ensures ∙ ap (option_map cell_id) c.unwrap-home.ensures in
+    let f = cells_by c.self.inside.cells in let m = cell_id c.target-home.result in let x = cell_id c.args.c in let W = c.self.invariant in let w = W.web in
+    let home : link_in f x HOME ≡ Some m = c.target-home.ensures in
     let kind : c.args.kind ≡ cell_kind f x = sym c.requires.kind ∙ ap (λ (z : List Row). kind_at (web_by z) x) (sym c.self.view_is) ∙ kind_same f (list_in f) x in
     let filed : c.is_filed-filed.result ≡ files f m (cell_kind f x) = c.is_filed-filed.ensures ∙ ap (files f m) kind in
     let own = list_in f m (cell_kind f x) in let F = cells_by c.set_count.new.self in let xs = without x own in
