@@ -248,6 +248,7 @@ impl LinkStore for WebStore {
             .first_with(m, number_of(f.label, self.by_value), f.arity)
     }
 
+    #[inline(always)]
     fn next_with(&self, a: Cell) -> Option<Cell> {
         self.web.listed();
         self.web.paired();

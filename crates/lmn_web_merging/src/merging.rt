@@ -226,6 +226,7 @@ impl MergingWeb {
     }
 
     /// The next atom behind this one in its list with its label and as many ports.
+    #[inline(always)]
     pub fn next_with(&self, c: Cell) -> Option<Cell>
         requires home { IsSome (home_at (merged_by self.now) (cell_id c)) }
         requires atom { kind_at (merged_by self.now) (cell_id c) ≡ Atom }
