@@ -120,18 +120,18 @@ pub both_fits : (rows : List Row) (b n : ℕ) (laid : AreLaid rows) (there : IsS
 both_fits rows b n laid there e = let l = small_fits rows b 0 laid there (omega arith) in let m = small_fits rows b 1 laid there (omega arith) in omega (arith, e, l, m)
 
 -- one of them in what was read
-if_first : (k all : ℕ) → k ≡ 0 → (if k == 0 then all % 256 else all / 256) ≡ all % 256
-if_first k all e = if_yes (k == 0) (all % 256) (all / 256) (eq-eqb k 0 e)
+if_first : (k all : ℕ) → k ≡ 0 → (if k == 0 then all / 256 else all % 256) ≡ all / 256
+if_first k all e = if_yes (k == 0) (all / 256) (all % 256) (eq-eqb k 0 e)
 
-if_second : (k all : ℕ) → k ≢ 0 → (if k == 0 then all % 256 else all / 256) ≡ all / 256
-if_second k all d = if_no (k == 0) (all % 256) (all / 256) (not_equal k 0 d)
+if_second : (k all : ℕ) → k ≢ 0 → (if k == 0 then all / 256 else all % 256) ≡ all % 256
+if_second k all d = if_no (k == 0) (all / 256) (all % 256) (not_equal k 0 d)
 
 pub part_read : (rows : List Row) (b k all n : ℕ) (laid : AreLaid rows) (there : IsSome (cells_by rows b)) → k < 2 → all ≡ both (get_or (numbers_of (cells_by rows b)) 0 0) (get_or (numbers_of (cells_by rows b)) 1 0)
-    → n ≡ (if k == 0 then all % 256 else all / 256) → n ≡ get_or (numbers_of (cells_by rows b)) k 0
+    → n ≡ (if k == 0 then all / 256 else all % 256) → n ≡ get_or (numbers_of (cells_by rows b)) k 0
 part_read rows b k all n laid there low e r =
-    let ns = numbers_of (cells_by rows b) in let small = small_fits rows b 0 laid there (omega arith) in elim (cases_eq k 0) [
-      | inl z ↦ r ∙ if_first k all z ∙ ap (λ m. m % 256) e ∙ first_in (get_or ns 0 0) (get_or ns 1 0) small ∙ sym (ap (λ m. get_or ns m 0) z)
-      | inr d ↦ (let z : k ≡ 1 = only_one k low d in r ∙ if_second k all d ∙ ap (λ m. m / 256) e ∙ second_in (get_or ns 0 0) (get_or ns 1 0) small ∙ sym (ap (λ m. get_or ns m 0) z))
+    let ns = numbers_of (cells_by rows b) in let small = small_fits rows b 1 laid there (omega arith) in elim (cases_eq k 0) [
+      | inl z ↦ r ∙ if_first k all z ∙ ap (λ m. m / 256) e ∙ first_in (get_or ns 0 0) (get_or ns 1 0) small ∙ sym (ap (λ m. get_or ns m 0) z)
+      | inr d ↦ (let z : k ≡ 1 = only_one k low d in r ∙ if_second k all d ∙ ap (λ m. m % 256) e ∙ second_in (get_or ns 0 0) (get_or ns 1 0) small ∙ sym (ap (λ m. get_or ns m 0) z))
     ]
   where
     only_one : (k : ℕ) → k < 2 → k ≢ 0 → k ≡ 1
@@ -298,22 +298,22 @@ small_changes rows b k n laid there low fits =
     record { laid = h.laid; cells = h.cells }
 
 -- what is written of both, where one is another
-if_first_is : (k n all : ℕ) → k ≡ 0 → (if k == 0 then all / 256 * 256 + n else n * 256 + all % 256) ≡ all / 256 * 256 + n
-if_first_is k n all e = if_yes (k == 0) (all / 256 * 256 + n) (n * 256 + all % 256) (eq-eqb k 0 e)
+if_first_is : (k n all : ℕ) → k ≡ 0 → (if k == 0 then n * 256 + all % 256 else all / 256 * 256 + n) ≡ n * 256 + all % 256
+if_first_is k n all e = if_yes (k == 0) (n * 256 + all % 256) (all / 256 * 256 + n) (eq-eqb k 0 e)
 
-if_second_is : (k n all : ℕ) → k ≢ 0 → (if k == 0 then all / 256 * 256 + n else n * 256 + all % 256) ≡ n * 256 + all % 256
-if_second_is k n all d = if_no (k == 0) (all / 256 * 256 + n) (n * 256 + all % 256) (not_equal k 0 d)
+if_second_is : (k n all : ℕ) → k ≢ 0 → (if k == 0 then n * 256 + all % 256 else all / 256 * 256 + n) ≡ all / 256 * 256 + n
+if_second_is k n all d = if_no (k == 0) (n * 256 + all % 256) (all / 256 * 256 + n) (not_equal k 0 d)
 
-first_is : (a b n all : ℕ) → a < 256 → all ≡ both a b → all / 256 * 256 + n ≡ both n b
+first_is : (a b n all : ℕ) → b < 256 → all ≡ both a b → n * 256 + all % 256 ≡ both n b
 first_is a b n all low e = omega (arith, low, e)
 
-second_is : (a b n all : ℕ) → a < 256 → all ≡ both a b → n * 256 + all % 256 ≡ both a n
+second_is : (a b n all : ℕ) → b < 256 → all ≡ both a b → all / 256 * 256 + n ≡ both a n
 second_is a b n all low e = omega (arith, low, e)
 
 pub part_written : (rows : List Row) (b k n all m : ℕ) (laid : AreLaid rows) (there : IsSome (cells_by rows b)) → k < 2 → all ≡ both (get_or (numbers_of (cells_by rows b)) 0 0) (get_or (numbers_of (cells_by rows b)) 1 0)
-    → m ≡ (if k == 0 then all / 256 * 256 + n else n * 256 + all % 256) → m ≡ both_with (numbers_of (cells_by rows b)) k n
+    → m ≡ (if k == 0 then n * 256 + all % 256 else all / 256 * 256 + n) → m ≡ both_with (numbers_of (cells_by rows b)) k n
 part_written rows b k n all m laid there low e r =
-    let ns = numbers_of (cells_by rows b) in let small = small_fits rows b 0 laid there (omega arith) in let six = six_there rows b laid there in elim (cases_eq k 0) [
+    let ns = numbers_of (cells_by rows b) in let small = small_fits rows b 1 laid there (omega arith) in let six = six_there rows b laid there in elim (cases_eq k 0) [
       | inl z ↦ r ∙ if_first_is k n all z ∙ first_is (get_or ns 0 0) (get_or ns 1 0) n all small e
           ∙ sym (ap (λ j. both_with ns j n) z ∙ (λ t. both (get_or-set_same ns 0 n 0 (omega (arith, six)) t) (get_or-set_other ns 0 1 n 0 (λ (w : 1 ≡ 0). absurd (omega (arith, w))) t)))
       | inr d ↦ (let z : k ≡ 1 = only_one k low d in r ∙ if_second_is k n all d ∙ second_is (get_or ns 0 0) (get_or ns 1 0) n all small e

@@ -168,14 +168,14 @@ links_gone (x ∷ ls) zero k rest e = absurd (omega (arith, e))
 links_gone (x ∷ ls) (suc n) k rest e = ap (λ m. drop m (link_items (x ∷ ls) ++ rest)) (one_less n k) ∙ links_gone ls n k rest (omega (arith, e))
 
 -- two small numbers in one
-pub first_in : (a b : ℕ) → a < 256 → both a b % 256 ≡ a
+pub first_in : (a b : ℕ) → b < 256 → both a b / 256 ≡ a
 first_in a b low = omega (arith, low)
 
-pub second_in : (a b : ℕ) → a < 256 → both a b / 256 ≡ b
+pub second_in : (a b : ℕ) → b < 256 → both a b % 256 ≡ b
 second_in a b low = omega (arith, low)
 
-numbers_back : (ns : List ℕ) (rest : List Item) → 6 ≤ length ns → get_or ns 0 0 < 256 → numbers_by (first_items (take 6 ns) ++ rest) ≡ take 6 ns
-numbers_back ns rest l low = let h = six_of ns l in let small : h.a < 256 = subst (λ (ms : List ℕ). get_or ms 0 0 < 256) h.are low in
+numbers_back : (ns : List ℕ) (rest : List Item) → 6 ≤ length ns → get_or ns 1 0 < 256 → numbers_by (first_items (take 6 ns) ++ rest) ≡ take 6 ns
+numbers_back ns rest l low = let h = six_of ns l in let small : h.b < 256 = subst (λ (ms : List ℕ). get_or ms 1 0 < 256) h.are low in
     subst (λ (ms : List ℕ). numbers_by (first_items (take 6 ms) ++ rest) ≡ take 6 ms) (sym h.are) (λ t. first_in h.a h.b small t ∷ second_in h.a h.b small t ∷ h.c ∷ h.d ∷ h.e ∷ h.f ∷ [])
 
 end_numbers_back : (x : Option ℕ) (ns : List ℕ) → length ns ≡ 2 → first_numbers 2 (end_items x ns) ≡ ns
@@ -311,7 +311,7 @@ some_words (x ∷ ls) rest e = omega arith
 -- the words of a cell stand for it
 pub cell_back : (c : HeldCell) → IsShaped c → cell_by (cell_items c) ≡ Some c
 cell_back c s =
-    let first : numbers_by (drop 7 (cell_items c)) ≡ take 6 c.numbers = ap numbers_by (links_gone (take 7 c.links) 7 0 (behind_links c) (seven c s)) ∙ numbers_back c.numbers (behind_numbers c) (some_numbers c s) (s.small 0 (omega arith)) in
+    let first : numbers_by (drop 7 (cell_items c)) ≡ take 6 c.numbers = ap numbers_by (links_gone (take 7 c.links) 7 0 (behind_links c) (seven c s)) ∙ numbers_back c.numbers (behind_numbers c) (some_numbers c s) (s.small 1 (omega arith)) in
     whole (cell_items c) (some_words (take 7 c.links) (behind_links c) (seven c s))
     ∙ (λ j. Some record {
       links = ((λ t. links_back (take 7 c.links) 7 (behind_links c) (seven c s) t ++ last_link_back c s t ∷ []) ∙ all_but_one 7 c.links s.links) j;

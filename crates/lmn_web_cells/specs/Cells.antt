@@ -48,9 +48,9 @@ abbrev pub port_items : List HeldPort → List Item
 port_items [] = []
 port_items (p ∷ ps) = link_to p.to ∷ number (port_and_mark p) ∷ port_items ps
 
--- two small numbers as one: the first is below 256
+-- two small numbers as one: the second is below 256
 abbrev pub both : ℕ → ℕ → ℕ
-both a b = b * 256 + a
+both a b = a * 256 + b
 
 -- the first six numbers: the index and two small ones in the halves of a word, and three in words of their own
 abbrev pub first_items : List ℕ → List Item
@@ -99,7 +99,7 @@ half_by i h = written_or_none (slice_index_or (halves_in i) h None)
 
 -- the first six numbers
 abbrev pub numbers_by : List Item → List ℕ
-numbers_by (i ∷ j ∷ k ∷ l ∷ is) = half_by i 1 % 256 ∷ half_by i 1 / 256 ∷ half_by i 0 ∷ number_by j ∷ number_by k ∷ number_by l ∷ []
+numbers_by (i ∷ j ∷ k ∷ l ∷ is) = half_by i 1 / 256 ∷ half_by i 1 % 256 ∷ half_by i 0 ∷ number_by j ∷ number_by k ∷ number_by l ∷ []
 numbers_by _ = []
 
 -- a word that was written, and not as a pointer

@@ -291,25 +291,30 @@ impl Cells {
     }
 }
 
-// One of the two small numbers, of both as one number.
+// One of the two small numbers, of both as one number. The second remainder changes nothing, but lets each of the two be one byte
+// that is read.
 #[inline(always)]
 fn part(k: usize, all: u32) -> u32
-    requires { k < 2 }
-    ensures { result ≡ (if k == ARITY then all % 256 else all / 256) }
+    requires small { all < 2 ^ 16 }
+    ensures { result ≡ (if k == ARITY then all / 256 else all % 256) }
 {
-    if k == ARITY { all % 256 } else { all / 256 }
+    if k == ARITY {
+        all / 256 % 256
+    } else {
+        all % 256
+    }
 }
 
 // Both of them as one number, of which one is another.
 #[inline(always)]
 fn with_part(k: usize, n: u8, all: u32) -> u32
     requires small { all < 2 ^ 16 }
-    ensures { result ≡ (if k == ARITY then all / 256 * 256 + n else n * 256 + all % 256) }
+    ensures { result ≡ (if k == ARITY then n * 256 + all % 256 else all / 256 * 256 + n) }
 {
     if k == ARITY {
-        all / 256 * 256 + n as u32
-    } else {
         n as u32 * 256 + all % 256
+    } else {
+        all / 256 * 256 + n as u32
     }
 }
 

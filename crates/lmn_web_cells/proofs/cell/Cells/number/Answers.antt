@@ -3,13 +3,18 @@ use Rattle.std.proofs.Common.{◌≡◌, List, IsSome, sym, subst, ap, ◌∙◌
 use Rattle.lmn_web_cells.specs.Rows.{Row}
 use Rattle.lmn_web_cells.specs.Cells.{cells_by, numbers_of}
 use Rattle.lmn_web_cells.specs.CellIds.{cell_id}
-use Rattle.lmn_web_cells.proofs.CellRows.{small_is, index_is, part_read, half_read, number_is, number_read}
+use Rattle.lmn_web_cells.proofs.CellRows.{both_fits, small_is, index_is, part_read, half_read, number_is, number_read}
 use Rattle.lmn_web_cells.proofs.cell.Cells.number.Goals as goal
 
 pub half-requires : goal.half-requires
 half-requires c =
     let there : IsSome (cells_by c.self.inside.rows.rows (cell_id c.args.c)) = subst (λ (z : List Row). IsSome (cells_by z (cell_id c.args.c))) (sym c.self.view_is) c.requires.there in
     (c.args.c.start, omega arith, (_, small_is _ _ c.self.invariant there))
+
+pub part-requires : goal.part-requires
+part-requires c =
+    let there : IsSome (cells_by c.self.inside.rows.rows (cell_id c.args.c)) = subst (λ (z : List Row). IsSome (cells_by z (cell_id c.args.c))) (sym c.self.view_is) c.requires.there in
+    record { small = both_fits _ _ c.half.result c.self.invariant there (half_read _ _ _ (small_is _ _ c.self.invariant there) c.half.ensures) }
 
 pub returns-then-k-lt-SMALL_NUMBERS : goal.returns-then-k-lt-SMALL_NUMBERS
 returns-then-k-lt-SMALL_NUMBERS c =
