@@ -37,12 +37,6 @@ last_next f b first y (z ∷ ys) p e q r at = last_next f (Some y) (f y).next z 
 pub before_behind : (f : ℕ → Node) (b first : Option ℕ) (y : ℕ) (ys : List ℕ) (p m : Option ℕ) (q : ℕ) → RunsThrough f b first (y ∷ ys) p m → p ≡ Some q → In q (y ∷ ys)
 before_behind f b first y ys p m q r at = let s = last_in f b first y ys p m r in subst (λ u. In u (y ∷ ys)) (let h : Some s.0 ≡ Some q = sym s.1 ∙ at in cc) s.2
 
--- what stands before a cell of a run behind the first one stands in its front, and is followed by it
-pub prev_in : (f : ℕ → Node) (b first : Option ℕ) (y : ℕ) (ys : List ℕ) (x : ℕ) (zs : List ℕ) (last : Option ℕ) → RunsThrough f b first ((y ∷ ys) ++ (x ∷ zs)) last None → (q : ℕ) → (f x).prev ≡ Some q → In q (y ∷ ys) × ((f q).next ≡ Some x)
-prev_in f b first y ys x zs last r q e =
-    let s = split f b first (y ∷ ys) (x ∷ zs) last None r in let p : s.0 ≡ Some q = sym s.3.1 ∙ e in
-    (before_behind f b first y ys s.0 s.1 q s.2 p, last_next f b first y ys s.0 s.1 q s.2 p ∙ s.3.0)
-
 -- the last one is followed by something else
 pub relink_end : (f g : ℕ → Node) (b first : Option ℕ) (y : ℕ) (ys : List ℕ) (p e new : Option ℕ) → RunsThrough f b first (y ∷ ys) p e → Distinct (y ∷ ys)
     → ((q : ℕ) → p ≡ Some q → g q ≡ record (f q) { next = new }) → ((z : ℕ) → In z (y ∷ ys) → p ≢ Some z → g z ≡ f z) → RunsThrough g b first (y ∷ ys) p new
@@ -136,18 +130,6 @@ leaves f g first last ys x zs h d r =
     (left_part f g x p n h ys zs first d (λ q at. after_in f (Some x) n zs last q two at) one)
     (right_part f g x p n h ys zs last d (λ q at. before_in f first ys p (Some x) q one at) two)
 
--- the same where it isn't the first
-pub leaves_behind : (f g : ℕ → Node) (b first last : Option ℕ) (y : ℕ) (ys : List ℕ) (x : ℕ) (zs : List ℕ) → Left f g x (f x).prev (f x).next → Distinct ((y ∷ ys) ++ (x ∷ zs))
-    → RunsThrough f b first ((y ∷ ys) ++ (x ∷ zs)) last None → RunsThrough g b first ((y ∷ ys) ++ zs) (ends last (f x).next (f x).prev) None
-leaves_behind f g b first last y ys x zs h d r =
-    let p = (f x).prev in let n = (f x).next in
-    let s = split f b first (y ∷ ys) (x ∷ zs) last None r in
-    let one : RunsThrough f b first (y ∷ ys) p (Some x) = subst (λ o. RunsThrough f b first (y ∷ ys) p o) s.3.0 (subst (λ o. RunsThrough f b first (y ∷ ys) o s.1) (sym s.3.1) s.2) in
-    let two : RunsThrough f (Some x) n zs last None = s.3.2 in
-    join g b first (y ∷ ys) p n zs (ends last n p) None
-    (front_left f g x p n h b first y ys zs d (λ q at. after_in f (Some x) n zs last q two at) one)
-    (right_part f g x p n h (y ∷ ys) zs last d (λ q at. before_behind f b first y ys p (Some x) q one at) two)
-
 -- g is f where x stands behind p, at the end
 pub record Joined (f g : ℕ → Node) (x : ℕ) (p : Option ℕ) : Type 0 where
   pub here : g x ≡ record { prev = p; next = None }
@@ -221,13 +203,3 @@ inserts f g first last ys x a zs h d fresh r =
     let one : RunsThrough f None first ys p (Some a) = subst (λ o. RunsThrough f None first ys p o) s.3.0 (subst (λ o. RunsThrough f None first ys o s.1) (sym s.3.1) s.2) in
     join g None (begins first p (Some x)) ys p (Some x) (x ∷ a ∷ zs) last None (front_part f g x p a h ys zs first d fresh one)
     (back_part f g x p a h ys zs last d fresh (λ q at. before_in f first ys p (Some a) q one at) (refl, refl, s.3.2))
-
--- the same behind the first
-pub inserts_behind : (f g : ℕ → Node) (b first last : Option ℕ) (y : ℕ) (ys : List ℕ) (x a : ℕ) (zs : List ℕ) → Between f g x (f a).prev a → Distinct ((y ∷ ys) ++ (a ∷ zs)) → (In x ((y ∷ ys) ++ (a ∷ zs)) → ⊥)
-    → RunsThrough f b first ((y ∷ ys) ++ (a ∷ zs)) last None → RunsThrough g b first ((y ∷ ys) ++ (x ∷ a ∷ zs)) last None
-inserts_behind f g b first last y ys x a zs h d fresh r =
-    let p = (f a).prev in
-    let s = split f b first (y ∷ ys) (a ∷ zs) last None r in
-    let one : RunsThrough f b first (y ∷ ys) p (Some a) = subst (λ o. RunsThrough f b first (y ∷ ys) p o) s.3.0 (subst (λ o. RunsThrough f b first (y ∷ ys) o s.1) (sym s.3.1) s.2) in
-    join g b first (y ∷ ys) p (Some x) (x ∷ a ∷ zs) last None (front_before f g x p a h b first y ys zs d fresh one)
-    (back_part f g x p a h (y ∷ ys) zs last d fresh (λ q at. before_behind f b first y ys p (Some a) q one at) (refl, refl, s.3.2))
