@@ -14,7 +14,7 @@ use Rattle.lmn_web.proofs.Reclassing.{key_same, key_true}
 use Rattle.lmn_web.proofs.Rings.{linked_prev, linked_next, linked_some, ring_last, ring_first, ring_some, ring_prev, ring_next, ring_next_some, ring_end}
 use Rattle.lmn_web.proofs.ClassEnds.{last_ends, ends_last, even_alive}
 use Rattle.lmn_web.proofs.ClassTrees.{beside_not, some_lowest, sorted_apart}
-use Rattle.lmn_web.proofs.ClassPlaces.{at, fork_of, holds_there, holds_atoms, link_small, last_in, class_none}
+use Rattle.lmn_web.proofs.ClassPlaces.{at, fork_of, holds_there, holds_atoms, last_in, class_none}
 use Rattle.lmn_web.proofs.ClassRuns.{inside_classed, inside_touches, closed_classed, closed_touches, shorter_classed, shorter_touches, bare_classed, bare_touches, side_filed, begun_classed, begun_touches, longer_classed, longer_touches}
 use Rattle.lmn_store_heap.proofs.Filters.{in_filter, filter_in, distinct_filter}
 
@@ -83,11 +83,7 @@ last_there f m c xs t a i = by (top (place_in f (key_in f c) m t).tree) refl
 pub holder_alive : (f : ℕ → Option HeldCell) (m c : ℕ) (xs : List ℕ) (t : ClassTree) → MayFile f m c xs t → (p : ℕ × ℕ) → IsSome (f (place_in f p m t).holder)
 holder_alive f m c xs t a p = holds_there f m xs (place_in f p m t).holder (place_in f p m t).link (holds_atoms f m xs t a.classed a.no_m p) a.there_m a.alive
 
--- and at one of its links
-pub holder_link : (f : ℕ → Option HeldCell) (m c : ℕ) (xs : List ℕ) (t : ClassTree) → MayFile f m c xs t → (p : ℕ × ℕ) → (place_in f p m t).link < 8
-holder_link f m c xs t a p = link_small f m xs t a.classed a.no_m p
-
--- in a word of a link
+-- in a word of one of its links
 pub holder_word : (f : ℕ → Option HeldCell) (m c : ℕ) (xs : List ℕ) (t : ClassTree) → MayFile f m c xs t → (p : ℕ × ℕ) (word : ℕ) → (word < 7) ⊎ (word ≡ 15) → link_of word ≡ (place_in f p m t).link → IsLinkWord (f (place_in f p m t).holder) word
 holder_word f m c xs t a p word (inl low) e = inl low
 holder_word f m c xs t a p word (inr last) e =

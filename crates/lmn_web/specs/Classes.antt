@@ -79,7 +79,7 @@ Linked h l (z ∷ zs) = ((h l).next ≡ Some z) × ((h z).prev ≡ Some l) × Li
 abbrev pub IsRing : (ℕ → Option HeldCell) → ℕ → List ℕ → Type 0
 IsRing f l zs = Linked (class_node f) l zs × (ys : List ℕ) × (zs ≡ ys ++ l ∷ [])
 
--- t has the last atoms of the classes of m, whose atoms are xs; where they have others below them, all other atoms lead to m
+-- t has the last atoms of the classes of m, whose atoms are xs; by the link of its even side each other atom leads to m
 pub record AreClassed (f : ℕ → Option HeldCell) (m : ℕ) (xs : List ℕ) (t : ClassTree) : Type 0 where
   pub tree : IsTree f (link_in f m LEADERS) t
   pub sorted : IsSorted f 0 t
@@ -210,7 +210,7 @@ abbrev pub is_no_membrane : (ℕ → Option HeldCell) → Option ℕ → Bool
 is_no_membrane f None = true
 is_no_membrane f (Some d) = number_in f d KIND == 0
 
--- c, which is filed, is the last one of its class: where it has others below it, it doesn't lead to a membrane
+-- c, which is filed, is the last one of its class: by the link of its even side it leads to no membrane
 abbrev pub ends_class : (ℕ → Option HeldCell) → ℕ → Bool
 ends_class f c = is_no_membrane f (link_in f c EVEN)
 

@@ -147,7 +147,7 @@ fn lowest(cells: &Cells, c: Cell) -> Place
     place
 }
 
-// Whether an atom that is filed is the last one of its class: each other one leads to its membrane where that has others below it.
+// Whether an atom that is filed is the last one of its class: by the link of its even side each other one leads to its membrane.
 #[inline(always)]
 fn is_last(cells: &Cells, c: Cell) -> bool
     requires there { IsSome (cells_by cells.now (cell_id c)) }
