@@ -170,7 +170,8 @@ filed_closed f have m c xs t xs' a i one pr nx prev next inner =
     let behind : (ws : List ℕ) × (w.vs ≡ nx ∷ ws) = elim (linked_next (class_node f) w.l w.us c w.vs w.ring.0 nx next) [
       | inl s ↦ absurd (
           let same : w.us ++ c ∷ [] ≡ w.ring.1 ++ w.l ∷ [] = ap (λ ws. w.us ++ (c ∷ ws)) (sym s) ∙ w.ring.2 in
-          let z : true ≡ false = sym (last_ends f m xs t a.classed a.kinds a.home w.l w.last_found.inside) ∙ ap (ends_class f) (sym (last_one w.us w.ring.1 c w.l same).1) ∙ inner in cc
+          let is_c : w.l ≡ c = sym (last_one w.us w.ring.1 c w.l same).1 in
+          let z : true ≡ false = sym (last_ends f m xs t a.classed a.kinds a.home w.l w.last_found.inside) ∙ ap (ends_class f) is_c ∙ inner in cc
           )
       | inr s ↦ s
     ] in
