@@ -8,6 +8,7 @@ pub mod Calling
 pub mod Sufficing
 pub mod Jumps
 pub mod Trying
+pub mod Differing
 pub mod Standing
 pub mod Restings
 pub mod FromOne

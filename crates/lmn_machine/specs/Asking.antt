@@ -1,5 +1,5 @@
 -- What the code ahead asks of a candidate. Contracts of private functions alone cite it.
-use Rattle.std.specs.Prelude.{ℕ, ◌≡◌, ◌≤◌, List, Option, Some, None, IfSome, length, slice_get}
+use Rattle.std.specs.Prelude.{ℕ, ◌≡◌, ◌≢◌, ◌≤◌, ◌+◌, ◌⊎◌, List, Option, Some, None, IfSome, length, slice_get}
 use Rattle.std.specs.Option.{option_map}
 use Rattle.lmn_base.specs.declared.functor.Functor.{Functor}
 use Rattle.lmn_base.specs.Lists.{In}
@@ -7,7 +7,7 @@ use Rattle.lmn_store_heap.specs.Lists.{from}
 use Rattle.lmn_store_heap.specs.Heap.{Heap, functor_of, home_of, atoms_in}
 use Rattle.lmn_store_heap.specs.Functors.{with_functor}
 use Rattle.lmn_instr_code.specs.declared.instr.Instr.{Instr}
-use Rattle.lmn_instr_code.specs.declared.instr.Instr.TheVariants.{FindAtom}
+use Rattle.lmn_instr_code.specs.declared.instr.Instr.TheVariants.{FindAtom, NeqAtom}
 use Rattle.lmn_instr_code.specs.Running.{HeadRegisters, HeadSize, AllHold}
 use Rattle.lmn_machine_registers.specs.declared.registers.SetRegisters.{SetRegisters}
 use Rattle.lmn_machine_registers.specs.Agreeing.{Agrees}
@@ -20,6 +20,14 @@ HoldsAsked h (Some f) m = (a : ℕ) × (In a (atoms_in h m)) × (functor_of h a 
 -- code asks, at a place or behind it, for an atom with a functor in the membrane of a register
 abbrev pub AsksFor : List Instr → ℕ → ℕ → Functor → Type 0
 AsksFor code at register f = (k x : ℕ) × (at ≤ k) × (slice_get code k ≡ Some (FindAtom x register f))
+
+-- code tells, at a place, the next atom register apart from one that is set and holds this atom
+abbrev pub TellsApart : {A M : Type 0} → SetRegisters A M → List Instr → ℕ → A → Type 0
+TellsApart g code at b = (y : ℕ) × (slice_get code at ≡ Some (NeqAtom (length g.atoms) y)) × (slice_get g.atoms y ≡ Some b)
+
+-- Code needn't be run up to a place, which is the first or the next one: there it only tells two atoms apart that differ.
+abbrev pub HoldsUpTo : {A : Type 0} → (A → ℕ) → List A → List Instr → ℕ → ℕ → Type 0
+HoldsUpTo {A} atom atoms code at start = (start ≡ at) ⊎ ((start ≡ at + 1) × ((x y : ℕ) × ((a b : A) × (slice_get code at ≡ Some (NeqAtom x y)) × (slice_get atoms x ≡ Some a) × (slice_get atoms y ≡ Some b) × (atom a ≢ atom b))))
 
 -- An atom stands in the membrane of a register, whenever the code from a place on succeeds with registers that agree with
 -- those that are set.

@@ -1,5 +1,5 @@
 //! Candidates are tested before they are tried, by what the code ahead asks of them.
-ghost use Rattle.std.specs.Prelude.{◌≡◌, ◌≤◌, ◌<◌, ◌+◌, ℕ, Some, IfSome, IsTrue, IsFalse, length, drop, slice_get};
+ghost use Rattle.std.specs.Prelude.{◌≡◌, ◌≢◌, ◌≤◌, ◌<◌, ◌+◌, ◌^◌, ℕ, Some, IfSome, MatchOption, IsTrue, IsFalse, length, drop, slice_get};
 ghost use Rattle.std.specs.Option.{option_map};
 ghost use Rattle.lmn_store_heap.specs.Lists.{from};
 ghost use Rattle.lmn_store_heap.specs.Heap.{IsAtom, IsMem, functor_of, home_of, parent_of, atoms_in, mems_in};
@@ -7,7 +7,7 @@ ghost use Rattle.lmn_instr_code.specs.declared.instr.Instr.TheVariants.{Deref, I
 ghost use Rattle.lmn_instr_code.specs.Running.{HeadRegisters, HeadSize, InstructionHolds, AllHold};
 ghost use Rattle.lmn_machine_registers.specs.Agreeing.{Agrees};
 ghost use Rattle.lmn_machine.specs.Searching.{AreHeldWhole};
-ghost use Rattle.lmn_machine.specs.Asking.{HoldsAsked, AsksFor, IsFitting, IsGuest};
+ghost use Rattle.lmn_machine.specs.Asking.{HoldsAsked, AsksFor, IsFitting, IsGuest, TellsApart};
 ghost use Rattle.lmn_base.specs.Lists.{In};
 
 use crate::checks;
@@ -114,53 +114,141 @@ fn may_lead<S: LinkStore>(
     }
 }
 
-/// Whether the code ahead may succeed with an atom in the next register, by its first instructions.
+/// The instruction at a place of code, where one stands there.
+#[inline(always)]
+pub fn instr_at<'a>(code: &'a Instrs<'_>, at: usize) -> Option<&'a Instr>
+    ensures { IfSome result (λ i. slice_get code.now at ≡ Some i.now) }
+{
+    if at < code.len() {
+        Some(code.at(at))
+    } else {
+        None
+    }
+}
+
+/// Whether the code ahead may succeed with an atom in the next register, by its first instructions. The very first is handed over, since
+/// it is the same for all candidates.
 #[inline(always)]
 fn atom_fits<S: LinkStore>(
     store: &S,
     code: &Instrs<'_>,
     at: usize,
+    ahead: Option<&Instr>,
     a: S::Atom,
     set: &SetRegisters<S::Atom, S::Mem>,
 ) -> bool
     requires held { AreHeldWhole S.atom_id S.mem_id (S.heap store.now) set.now }
     requires atom { IsAtom (S.heap store.now) (S.atom_id a) }
+    requires ahead { IfSome ahead (λ i. slice_get code.now at ≡ Some i.now) }
     ensures { IsFalse result → (c : HeadSize) (s : HeadRegisters) → Agrees S.atom_id S.mem_id set.now s → s.images.atom (length set.now.atoms) ≡ S.atom_id a → AllHold (S.heap store.now) c s (drop at code.now) → ⊥ }
 {
-    if at >= code.len() {
+    let _code = code.len();
+    let Some(instr) = ahead else {
         return true;
-    }
-    match code.at(at) {
+    };
+    match instr {
         Instr::Deref { atom, from, port } => {
             if from.atom as usize != set.atoms.len() {
                 return true;
             }
             may_lead(store, code, at + 1, a, *from, *atom, *port, set)
         }
-        instr => !refutes(store, instr, set.atoms.len(), a, set),
+        _ => !refutes(store, instr, set.atoms.len(), a, set),
     }
 }
 
 /// The first of the atoms with a functor in a membrane, from one on, with which the code ahead may succeed, by its first
 /// instructions.
 #[inline(always)]
-pub fn fitting_atom<S: LinkStore>(
+fn fitting_atom<S: LinkStore>(
     store: &S,
     code: &Instrs<'_>,
     at: usize,
+    ahead: Option<&Instr>,
     place: S::Mem,
     functor: Functor,
     start: Option<S::Atom>,
     set: &SetRegisters<S::Atom, S::Mem>,
 ) -> Option<S::Atom>
     requires held { AreHeldWhole S.atom_id S.mem_id (S.heap store.now) set.now }
+    requires ahead { IfSome ahead (λ i. slice_get code.now at ≡ Some i.now) }
     requires functor { IfSome start (λ a. functor_of (S.heap store.now) (S.atom_id a) ≡ Some functor) }
     requires home { IfSome start (λ a. home_of (S.heap store.now) (S.atom_id a) ≡ Some (S.mem_id place)) }
     ensures { IsFitting S.atom_id S.mem_id (S.heap store.now) set.now (drop at code.now) functor (S.mem_id place) start result }
 {
     let mut candidate = start;
     while let Some(a) = candidate {
-        if atom_fits(store, code, at, a, set) {
+        if atom_fits(store, code, at, ahead, a, set) {
+            return Some(a);
+        }
+        candidate = store.next_with(a);
+    }
+    None
+}
+
+/// The atom from which code tells the next atom register apart at a place, where it does so and is to be asked.
+#[inline(always)]
+pub fn told_apart<A: Copy, M: Copy>(
+    code: &Instrs<'_>,
+    at: usize,
+    ahead: Option<&Instr>,
+    ask: bool,
+    set: &SetRegisters<A, M>,
+) -> Option<A>
+    requires { IfSome ahead (λ i. slice_get code.now at ≡ Some i.now) }
+    ensures { IfSome result (λ b. TellsApart set.now code.now at b) }
+{
+    if !ask {
+        return None;
+    }
+    match ahead {
+        Some(Instr::NeqAtom { atom, other }) => {
+            if *atom as usize != set.atoms.len() {
+                return None;
+            }
+            if *other as usize >= set.atoms.len() {
+                return None;
+            }
+            Some(set.atoms.at(*other as usize))
+        }
+        _ => None,
+    }
+}
+
+/// The place from which on code is to be run, where the next atom register holds another atom than the one from which it is told apart.
+#[inline(always)]
+pub fn start_behind<A: Copy>(at: usize, other: Option<A>) -> usize
+    requires { at < 2 ^ 63 }
+    ensures { MatchOption other (result ≡ at) (λ _. result ≡ at + 1) }
+{
+    match other {
+        Some(_) => at + 1,
+        None => at,
+    }
+}
+
+/// The first of the atoms with a functor in a membrane, from one on, that isn't the one from which the code ahead tells it apart.
+#[inline(always)]
+fn other_atom<S: LinkStore>(
+    store: &S,
+    code: &Instrs<'_>,
+    at: usize,
+    place: S::Mem,
+    functor: Functor,
+    start: Option<S::Atom>,
+    other: S::Atom,
+    set: &SetRegisters<S::Atom, S::Mem>,
+) -> Option<S::Atom>
+    requires held { AreHeldWhole S.atom_id S.mem_id (S.heap store.now) set.now }
+    requires functor { IfSome start (λ a. functor_of (S.heap store.now) (S.atom_id a) ≡ Some functor) }
+    requires home { IfSome start (λ a. home_of (S.heap store.now) (S.atom_id a) ≡ Some (S.mem_id place)) }
+    requires other { TellsApart set.now code.now at other }
+    ensures fits { IsFitting S.atom_id S.mem_id (S.heap store.now) set.now (drop at code.now) functor (S.mem_id place) start result }
+    ensures apart { IfSome result (λ a. S.atom_id a ≢ S.atom_id other) }
+{
+    let mut candidate = start;
+    while let Some(a) = candidate {
+        if checks::atoms_differ(store, a, other) {
             return Some(a);
         }
         candidate = store.next_with(a);
@@ -175,20 +263,30 @@ pub fn first_candidate<S: LinkStore>(
     store: &S,
     code: &Instrs<'_>,
     at: usize,
+    ahead: Option<&Instr>,
     place: S::Mem,
     functor: Functor,
     first: S::Atom,
+    other: Option<S::Atom>,
     set: &SetRegisters<S::Atom, S::Mem>,
 ) -> Option<S::Atom>
     requires held { AreHeldWhole S.atom_id S.mem_id (S.heap store.now) set.now }
+    requires ahead { IfSome ahead (λ i. slice_get code.now at ≡ Some i.now) }
     requires functor { functor_of (S.heap store.now) (S.atom_id first) ≡ Some functor }
     requires home { home_of (S.heap store.now) (S.atom_id first) ≡ Some (S.mem_id place) }
-    ensures { IsFitting S.atom_id S.mem_id (S.heap store.now) set.now (drop at code.now) functor (S.mem_id place) (Some first) result }
+    requires other { IfSome other (λ b. TellsApart set.now code.now at b) }
+    ensures fits { IsFitting S.atom_id S.mem_id (S.heap store.now) set.now (drop at code.now) functor (S.mem_id place) (Some first) result }
+    ensures apart { IfSome result (λ a. IfSome other (λ b. S.atom_id a ≢ S.atom_id b)) }
 {
-    if at == 1 {
-        return Some(first);
+    match other {
+        Some(b) => other_atom(store, code, at, place, functor, Some(first), b, set),
+        None => {
+            if at == 1 {
+                return Some(first);
+            }
+            fitting_atom(store, code, at, ahead, place, functor, Some(first), set)
+        }
     }
-    fitting_atom(store, code, at, place, functor, Some(first), set)
 }
 
 /// Whether an instruction looks for an atom in a membrane that is set and holds none with the functor.
@@ -223,6 +321,7 @@ fn looks_in_vain<S: LinkStore>(
 /// It is asked once for each choice, behind the first candidate that failed, so a search that succeeds at its first
 /// candidates pays nothing. Too few atoms of a functor that is there aren't seen: they are
 /// counted where the search gives up.
+#[inline(always)]
 fn is_hopeless<S: LinkStore>(
     store: &S,
     code: &Instrs<'_>,
@@ -242,7 +341,7 @@ fn is_hopeless<S: LinkStore>(
 
 /// The first of the atoms with a functor in a membrane, from one on, with which the code ahead may succeed, behind one with
 /// which it failed. Where the code is to be asked whether it is hopeless and is, there is none.
-pub fn further_atom<S: LinkStore>(
+fn further_atom<S: LinkStore>(
     store: &S,
     code: &Instrs<'_>,
     at: usize,
@@ -262,7 +361,69 @@ pub fn further_atom<S: LinkStore>(
             return None;
         }
     }
-    fitting_atom(store, code, at, place, functor, start, set)
+    fitting_atom(
+        store,
+        code,
+        at,
+        instr_at(code, at),
+        place,
+        functor,
+        start,
+        set,
+    )
+}
+
+/// Likewise one that isn't the atom from which the code ahead tells it apart.
+fn further_other<S: LinkStore>(
+    store: &S,
+    code: &Instrs<'_>,
+    at: usize,
+    place: S::Mem,
+    functor: Functor,
+    start: Option<S::Atom>,
+    other: S::Atom,
+    ask: bool,
+    set: &SetRegisters<S::Atom, S::Mem>,
+) -> Option<S::Atom>
+    requires held { AreHeldWhole S.atom_id S.mem_id (S.heap store.now) set.now }
+    requires functor { IfSome start (λ a. functor_of (S.heap store.now) (S.atom_id a) ≡ Some functor) }
+    requires home { IfSome start (λ a. home_of (S.heap store.now) (S.atom_id a) ≡ Some (S.mem_id place)) }
+    requires other { TellsApart set.now code.now at other }
+    ensures fits { IsFitting S.atom_id S.mem_id (S.heap store.now) set.now (drop at code.now) functor (S.mem_id place) start result }
+    ensures apart { IfSome result (λ a. S.atom_id a ≢ S.atom_id other) }
+{
+    if ask && start.is_some() {
+        if is_hopeless(store, code, at, set) {
+            return None;
+        }
+    }
+    other_atom(store, code, at, place, functor, start, other, set)
+}
+
+/// The candidate that is tried behind one with which the code ahead failed.
+#[inline(always)]
+pub fn further_candidate<S: LinkStore>(
+    store: &S,
+    code: &Instrs<'_>,
+    at: usize,
+    place: S::Mem,
+    functor: Functor,
+    start: Option<S::Atom>,
+    other: Option<S::Atom>,
+    ask: bool,
+    set: &SetRegisters<S::Atom, S::Mem>,
+) -> Option<S::Atom>
+    requires held { AreHeldWhole S.atom_id S.mem_id (S.heap store.now) set.now }
+    requires functor { IfSome start (λ a. functor_of (S.heap store.now) (S.atom_id a) ≡ Some functor) }
+    requires home { IfSome start (λ a. home_of (S.heap store.now) (S.atom_id a) ≡ Some (S.mem_id place)) }
+    requires other { IfSome other (λ b. TellsApart set.now code.now at b) }
+    ensures fits { IsFitting S.atom_id S.mem_id (S.heap store.now) set.now (drop at code.now) functor (S.mem_id place) start result }
+    ensures apart { IfSome result (λ a. IfSome other (λ b. S.atom_id a ≢ S.atom_id b)) }
+{
+    match other {
+        Some(b) => further_other(store, code, at, place, functor, start, b, ask, set),
+        None => further_atom(store, code, at, place, functor, start, ask, set),
+    }
 }
 
 /// The functor of the first atom that code looks for in the membrane of a register.

@@ -14,6 +14,7 @@ use lmn_store_trait::LinkStore;
 
 /// Looks for the first success of head code in a membrane: the registers then hold it. It takes no memory. Where the plain
 /// search gives up, the one that jumps back begins anew.
+#[inline(always)]
 pub(crate) fn find<S: LinkStore>(
     store: &mut S,
     code: &Instrs<'_>,
@@ -42,6 +43,7 @@ pub(crate) fn find<S: LinkStore>(
 }
 
 /// Looks for it by the search that jumps back.
+#[inline(never)]
 fn find_anew<S: LinkStore>(
     store: &mut S,
     code: &Instrs<'_>,

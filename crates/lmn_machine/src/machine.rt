@@ -102,6 +102,7 @@ impl<S: LinkStore> Machine<S> {
     /// The store is changed and put back: the walk through a part sets marks, which each ISGROUND takes back, so
     /// every way out leaves the store by one clause of one function. What is said of the registers `prepare`, `commit` and
     /// `cost` ask.
+    #[inline(always)]
     pub fn find<L: Ledger>(
         &mut self,
         code: &CodeView<'_>,

@@ -5,7 +5,7 @@ ghost use Rattle.lmn_instr_code.specs.declared.instr.Instr.TheVariants.{FindAtom
 ghost use Rattle.lmn_machine.specs.Searching.{AreHeldWhole, HeadInOrder};
 ghost use Rattle.lmn_machine.specs.Jumping.{Lasted};
 ghost use Rattle.lmn_machine.specs.Outcomes.{ChoosesAtoms, ChoosesMembranes};
-ghost use Rattle.lmn_machine.specs.Asking.{IsGuest};
+ghost use Rattle.lmn_machine.specs.Asking.{HoldsUpTo, IsGuest};
 ghost use Rattle.lmn_store_heap.specs.Heap.{IsAtom, Unmarked, atoms_in, functor_of, home_of};
 ghost use Rattle.lmn_store_heap.specs.Functors.{with_functor};
 
@@ -42,20 +42,22 @@ pub fn begin<S: LinkStore>(
     if at < code.len() {
         let first = code.at(at);
         if let Instr::FindAtom { .. } = first {
-            return choose_atom(store, code, at, first, set, patience, trail);
+            // The first atom that is looked for in a membrane has none there to be told apart from.
+            return choose_atom(store, code, at, first, false, set, patience, trail);
         }
     }
     search_apart(store, code, at, set, patience, trail)
 }
 
 /// Runs code from an instruction on, and tries the candidates of its first choice in order. Where patience is gone, it gives up.
-/// It is a part of each function that tries candidates: one call leads from a choice to the next.
+/// It is a part of each function that tries candidates: one call leads from a choice to the next. Before `start` nothing has to be run.
 #[cycle(search)]
 #[inline(always)]
 fn search<S: LinkStore>(
     store: &mut S,
     code: &Instrs<'_>,
     at: usize,
+    start: usize,
     set: &mut SetRegisters<S::Atom, S::Mem>,
     patience: &mut Patience,
     trail: &mut Found<S::Atom>,
@@ -64,11 +66,12 @@ fn search<S: LinkStore>(
     requires unmarked { Unmarked (S.heap store.old) }
     requires held { AreHeldWhole S.atom_id S.mem_id (S.heap store.old) set.old }
     requires at { at ≤ length code.now }
+    requires start { HoldsUpTo S.atom_id set.old.atoms code.now at start }
     requires order { HeadInOrder (length set.old.atoms) (length set.old.membranes) (length set.old.parts) (length set.old.integers) (drop at code.now) }
     ensures same { S.heap store.new ≡ S.heap store.old }
     ensures searched { Lasted patience.new.left S.atom_id S.mem_id (S.heap store.old) set.old set.new result (drop at code.now) }
 {
-    for i in at..code.len() {
+    for i in start..code.len() {
         let instr = code.at(i);
         match steps::step(store, set, instr, trail) {
             Outcome::Holds => {}
@@ -103,7 +106,7 @@ fn search_apart<S: LinkStore>(
     ensures same { S.heap store.new ≡ S.heap store.old }
     ensures searched { Lasted patience.new.left S.atom_id S.mem_id (S.heap store.old) set.old set.new result (drop at code.now) }
 {
-    search(store, code, at, set, patience, trail)
+    search(store, code, at, at, set, patience, trail)
 }
 
 /// Tries the candidates of a FINDATOM. It is no part of its caller.
@@ -127,7 +130,7 @@ fn choose_atom_apart<S: LinkStore>(
     ensures same { S.heap store.new ≡ S.heap store.old }
     ensures searched { Lasted patience.new.left S.atom_id S.mem_id (S.heap store.old) set.old set.new result (drop at code.now) }
 {
-    choose_atom(store, code, at, instr, set, patience, trail)
+    choose_atom(store, code, at, instr, true, set, patience, trail)
 }
 
 /// Tries the candidates of an ANYMEM. It is no part of its caller.
@@ -154,7 +157,7 @@ fn choose_membrane_apart<S: LinkStore>(
     choose_membrane(store, code, at, instr, set, patience, trail)
 }
 
-/// Tries the candidates of a FINDATOM.
+/// Tries the candidates of a FINDATOM. With `another` the code behind it may tell the atom apart from one that is set.
 #[cycle(search)]
 #[inline(always)]
 fn choose_atom<S: LinkStore>(
@@ -162,6 +165,7 @@ fn choose_atom<S: LinkStore>(
     code: &Instrs<'_>,
     at: usize,
     instr: &Instr,
+    another: bool,
     set: &mut SetRegisters<S::Atom, S::Mem>,
     patience: &mut Patience,
     trail: &mut Found<S::Atom>,
@@ -184,7 +188,7 @@ fn choose_atom<S: LinkStore>(
             let place = set.membranes.at(*membrane as usize);
             match store.first_with(place, *functor) {
                 Some(first) => search_atoms(
-                    store, code, at, place, first, *functor, set, patience, trail,
+                    store, code, at, place, first, *functor, another, set, patience, trail,
                 ),
                 None => false,
             }
@@ -228,7 +232,8 @@ fn choose_membrane<S: LinkStore>(
     }
 }
 
-/// Tries the atoms of a membrane with a functor for the next register, of which one is the first.
+/// Tries the atoms of a membrane with a functor for the next register, of which one is the first. With `another` the code ahead may tell
+/// it apart from one that is set.
 #[cycle(search)]
 #[inline(always)]
 fn search_atoms<S: LinkStore>(
@@ -238,6 +243,7 @@ fn search_atoms<S: LinkStore>(
     place: S::Mem,
     first: S::Atom,
     functor: Functor,
+    another: bool,
     set: &mut SetRegisters<S::Atom, S::Mem>,
     patience: &mut Patience,
     trail: &mut Found<S::Atom>,
@@ -256,20 +262,30 @@ fn search_atoms<S: LinkStore>(
     let _code = code.len();
     let rest = at + 1;
     let (atoms, membranes) = (set.atoms.len(), set.membranes.len());
-    let (parts, integers) = (set.parts.len(), set.integers.len());
-    let mut candidate = ahead::first_candidate(store, code, rest, place, functor, first, set);
+    let integers = set.integers.len();
+    let instr = ahead::instr_at(code, rest);
+    let other = ahead::told_apart(code, rest, instr, another, set);
+    let mut start = ahead::start_behind(rest, other);
+    let mut candidate = ahead::first_candidate(
+        store, code, rest, instr, place, functor, first, other, set,
+    );
     let mut ask = true;
     while let Some(atom) = candidate {
         set.atoms.push(atom);
-        if search(store, code, rest, set, patience, trail) {
+        if search(store, code, rest, start, set, patience, trail) {
             return true;
         }
         if !patience.lasts() {
             return false;
         }
-        set.keep(atoms, membranes, parts, integers);
+        // No typed context is set before an atom is looked for.
+        set.keep(atoms, membranes, 0, integers);
         let next = store.next_with(atom);
-        candidate = ahead::further_atom(store, code, rest, place, functor, next, ask, set);
+        let other = ahead::told_apart(code, rest, ahead::instr_at(code, rest), another, set);
+        start = ahead::start_behind(rest, other);
+        candidate = ahead::further_candidate(
+            store, code, rest, place, functor, next, other, ask, set,
+        );
         ask = false;
     }
     false

@@ -1,8 +1,8 @@
-use Rattle.std.proofs.Common.{rules, ◌≡◌, ◌<◌, ◌≤◌, ◌+◌, length, drop, Some, None, refl, arith, ap, sym, subst, ◌∙◌}
+use Rattle.std.proofs.Common.{rules, ◌≡◌, inl, [], ◌∷◌, ◌++◌, ◌<◌, ◌≤◌, ◌+◌, length, drop, Some, None, refl, arith, ap, sym, subst, ◌∙◌}
 use Rattle.std.specs.Option.{option_map}
 use Rattle.lmn_store_heap.specs.Lists.{from}
 use Rattle.lmn_store_heap.specs.Functors.{with_functor}
-use Rattle.lmn_machine.specs.Asking.{AsksFor, AtomsFit, IsGuest}
+use Rattle.lmn_machine.specs.Asking.{AsksFor, AtomsFit, HoldsUpTo, IsGuest, TellsApart}
 use Rattle.lmn_machine.proofs.Fitting.{MembranesFit, OnlyOne, atoms_fit, membranes_fit, only_home, only_left, only_fails, smaller}
 use Rattle.std.specs.Prelude.{true, false}
 use Rattle.std.specs.Prelude.{IfSome}
@@ -14,6 +14,7 @@ use Rattle.lmn_machine.specs.Outcomes.{ChoosesAtoms}
 use Rattle.lmn_machine.specs.Searching.{AreHeldWhole, Extends, HeadInOrder, Searched, Stepped}
 use Rattle.lmn_machine_registers.specs.declared.stack.TheConstants.{ROOM}
 use Rattle.lmn_machine.specs.Jumping.{Lasted, with_atom, with_membrane}
+use Rattle.lmn_machine.proofs.Differing.{each_holds_up_to, passed_up_to}
 use Rattle.lmn_machine.proofs.Trying.{given_up, lasted, lasted_by, passed_lasted, passed_none}
 use Rattle.lmn_machine.proofs.Telling.{atoms_chosen, membranes_chosen}
 use Rattle.lmn_machine.proofs.Stepping.{Passed, extends_itself, extends_on, passed_one, failed, passed_all}
@@ -37,7 +38,7 @@ choose_membrane_apart-choose_membrane-requires g t c κs within =
 
 pub search_apart-search-requires : goal.search_apart-search-requires
 search_apart-search-requires g t c κs within =
-    (search rules, (search rules, (search rules, (search rules, (c.requires.valid, (c.requires.unmarked, (c.requires.held, (c.requires.at, c.requires.order))))))))
+    (search rules, (search rules, (search rules, (search rules, (c.requires.valid, (c.requires.unmarked, (c.requires.held, (c.requires.at, (inl refl, c.requires.order)))))))))
 
 pub begin-search_apart-requires : goal.begin-search_apart-requires
 begin-search_apart-requires g t c κs within =
@@ -207,17 +208,20 @@ search_atoms-loop-candidate-init g t c = record {
   same = refl;
   set = refl;
   left = atoms_fit g.S.LinkStore.atom_id g.S.LinkStore.mem_id (g.S.LinkStore.heap c.args.store.now) c.args.set.now (drop c.args.at c.args.code.now) (drop (c.args.at + 1) c.args.code.now) c.args.functor c.requires.at.0 c.args.place (Some c.args.first) c.first_candidate-candidate.result (drop_get c.args.at c.args.code.now (FindAtom (length c.args.set.now.atoms) c.requires.at.0 c.args.functor) c.requires.at.1)
-      (atoms_first g.S.LinkStore.atom_id g.S.LinkStore.mem_id (g.S.LinkStore.heap c.args.store.now) c.args.set.now (drop c.args.at c.args.code.now) (drop (c.args.at + 1) c.args.code.now) c.args.functor c.requires.at.0 c.args.place (Some c.args.first) (drop_get c.args.at c.args.code.now (FindAtom (length c.args.set.now.atoms) c.requires.at.0 c.args.functor) c.requires.at.1) c.requires.at.2 c.requires.list) c.first_candidate-candidate.ensures.left;
-  there = if_both (λ a. functor_of (g.S.LinkStore.heap c.args.store.now) (g.S.LinkStore.atom_id a) ≡ Some c.args.functor) (λ a. home_of (g.S.LinkStore.heap c.args.store.now) (g.S.LinkStore.atom_id a) ≡ Some (g.S.LinkStore.mem_id c.args.place)) c.first_candidate-candidate.result c.first_candidate-candidate.ensures.functor c.first_candidate-candidate.ensures.home;
+      (atoms_first g.S.LinkStore.atom_id g.S.LinkStore.mem_id (g.S.LinkStore.heap c.args.store.now) c.args.set.now (drop c.args.at c.args.code.now) (drop (c.args.at + 1) c.args.code.now) c.args.functor c.requires.at.0 c.args.place (Some c.args.first) (drop_get c.args.at c.args.code.now (FindAtom (length c.args.set.now.atoms) c.requires.at.0 c.args.functor) c.requires.at.1) c.requires.at.2 c.requires.list) c.first_candidate-candidate.ensures.fits.left;
+  there = if_both (λ a. functor_of (g.S.LinkStore.heap c.args.store.now) (g.S.LinkStore.atom_id a) ≡ Some c.args.functor) (λ a. home_of (g.S.LinkStore.heap c.args.store.now) (g.S.LinkStore.atom_id a) ≡ Some (g.S.LinkStore.mem_id c.args.place)) c.first_candidate-candidate.result c.first_candidate-candidate.ensures.fits.functor c.first_candidate-candidate.ensures.fits.home;
+  apart = each_holds_up_to g.S.LinkStore.atom_id g.S.LinkStore.mem_id (g.S.LinkStore.heap c.args.store.now) c.args.set.now c.args.code.now (c.args.at + 1) c.start_behind-start.result c.told_apart-other.result c.first_candidate-candidate.result c.start_behind-start.ensures c.told_apart-other.ensures c.first_candidate-candidate.ensures.apart;
 }
 
-pub search_atoms-further_atom-candidate-requires-clause-held : goal.search_atoms-further_atom-candidate-requires-clause-held
-search_atoms-further_atom-candidate-requires-clause-held g t c =
+pub search_atoms-further_candidate-candidate-requires-clause-held : goal.search_atoms-further_candidate-candidate-requires-clause-held
+search_atoms-further_candidate-candidate-requires-clause-held g t c =
     let same : g.S.LinkStore.heap c.search.new.store ≡ g.S.LinkStore.heap c.args.store.now = c.search.ensures.same ∙ c.loop-candidate.invariant.same in
     let more = one_more c.args.set.now c.loop-candidate.set c.in-Some.atom c.push.new.self c.loop-candidate.invariant.set c.push.ensures in
     let searched = subst (λ k. Searched g.S.LinkStore.atom_id g.S.LinkStore.mem_id (g.S.LinkStore.heap c.args.store.now) k c.search.new.set false (drop (c.args.at + 1) c.args.code.now)) more (subst (λ b. Searched g.S.LinkStore.atom_id g.S.LinkStore.mem_id (g.S.LinkStore.heap c.args.store.now) (having_atoms c.loop-candidate.set c.push.new.self) c.search.new.set b (drop (c.args.at + 1) c.args.code.now)) c.if-search.false
     (subst (λ h. Searched g.S.LinkStore.atom_id g.S.LinkStore.mem_id h (having_atoms c.loop-candidate.set c.push.new.self) c.search.new.set c.search.result (drop (c.args.at + 1) c.args.code.now)) c.loop-candidate.invariant.same (c.search.ensures.searched.searched (c.lasts.ensures.some c.if-not-lasts.false)))) in
-    let taken = taken_back c.args.set.now c.search.new.set c.keep.new.self c.len-atoms.result c.len-membranes.result c.len-parts.result c.len-integers.result c.len-atoms.ensures c.len-membranes.ensures c.len-parts.ensures c.len-integers.ensures
+    let none = (atom_ahead (length c.args.set.now.atoms) (length c.args.set.now.membranes) (length c.args.set.now.parts) (length c.args.set.now.integers) (length c.args.set.now.atoms) c.requires.at.0 c.args.functor (drop c.args.at c.args.code.now) (drop (c.args.at + 1) c.args.code.now)
+    (drop_get c.args.at c.args.code.now (FindAtom (length c.args.set.now.atoms) c.requires.at.0 c.args.functor) c.requires.at.1) c.requires.order).0.3 in
+    let taken = taken_back c.args.set.now c.search.new.set c.keep.new.self c.len-atoms.result c.len-membranes.result 0 c.len-integers.result c.len-atoms.ensures c.len-membranes.ensures (sym none) c.len-integers.ensures
     (extends_on g.S.LinkStore.atom_id g.S.LinkStore.mem_id (g.S.LinkStore.heap c.args.store.now) c.args.set.now (with_atom c.args.set.now c.in-Some.atom) c.search.new.set (extends_atom g.S.LinkStore.atom_id g.S.LinkStore.mem_id (g.S.LinkStore.heap c.args.store.now) c.args.set.now c.in-Some.atom) searched.extends) c.keep.ensures in
     subst (λ k. AreHeldWhole g.S.LinkStore.atom_id g.S.LinkStore.mem_id (g.S.LinkStore.heap c.search.new.store) k) (sym taken) (subst (λ h. AreHeldWhole g.S.LinkStore.atom_id g.S.LinkStore.mem_id h c.args.set.now) (sym same) c.requires.held)
 
@@ -226,9 +230,9 @@ search_atoms-loop-candidate-smaller g t c =
     let same : g.S.LinkStore.heap c.search.new.store ≡ g.S.LinkStore.heap c.args.store.now = c.search.ensures.same ∙ c.loop-candidate.invariant.same in
     let there = subst (λ o. IfSome o (λ a. (functor_of (g.S.LinkStore.heap c.args.store.now) (g.S.LinkStore.atom_id a) ≡ Some c.args.functor) × (home_of (g.S.LinkStore.heap c.args.store.now) (g.S.LinkStore.atom_id a) ≡ Some (g.S.LinkStore.mem_id c.args.place)))) c.in-Some.is c.loop-candidate.invariant.there in
     let next = next_same g.S.LinkStore.atom_id (g.S.LinkStore.heap c.args.store.now) (g.S.LinkStore.heap c.search.new.store) c.in-Some.atom c.next_with-next.result same c.next_with-next.ensures.list c.next_with-next.ensures.functor c.next_with-next.ensures.home in
-    let further = subst (λ (h : Heap). length (from (option_map g.S.LinkStore.atom_id c.further_atom-candidate.result) (with_functor h c.args.functor (atoms_in h (g.S.LinkStore.mem_id c.args.place)))) ≤ length (from (option_map g.S.LinkStore.atom_id c.next_with-next.result) (with_functor h c.args.functor (atoms_in h (g.S.LinkStore.mem_id c.args.place))))) same c.further_atom-candidate.ensures.further in
-    subst (λ o. length (from (option_map g.S.LinkStore.atom_id c.further_atom-candidate.result) (with_functor (g.S.LinkStore.heap c.args.store.now) c.args.functor (atoms_in (g.S.LinkStore.heap c.args.store.now) (g.S.LinkStore.mem_id c.args.place)))) < length (from (option_map g.S.LinkStore.atom_id o) (with_functor (g.S.LinkStore.heap c.args.store.now) c.args.functor (atoms_in (g.S.LinkStore.heap c.args.store.now) (g.S.LinkStore.mem_id c.args.place))))) (sym c.in-Some.is)
-    (smaller (g.S.LinkStore.atom_id c.in-Some.atom) (option_map g.S.LinkStore.atom_id c.next_with-next.result) (option_map g.S.LinkStore.atom_id c.further_atom-candidate.result) (with_functor (g.S.LinkStore.heap c.args.store.now) c.args.functor (atoms_in (g.S.LinkStore.heap c.args.store.now) (g.S.LinkStore.mem_id c.args.place))) (next.0 (g.S.LinkStore.mem_id c.args.place) c.args.functor there.1 there.0) further)
+    let further = subst (λ (h : Heap). length (from (option_map g.S.LinkStore.atom_id c.further_candidate-candidate.result) (with_functor h c.args.functor (atoms_in h (g.S.LinkStore.mem_id c.args.place)))) ≤ length (from (option_map g.S.LinkStore.atom_id c.next_with-next.result) (with_functor h c.args.functor (atoms_in h (g.S.LinkStore.mem_id c.args.place))))) same c.further_candidate-candidate.ensures.fits.further in
+    subst (λ o. length (from (option_map g.S.LinkStore.atom_id c.further_candidate-candidate.result) (with_functor (g.S.LinkStore.heap c.args.store.now) c.args.functor (atoms_in (g.S.LinkStore.heap c.args.store.now) (g.S.LinkStore.mem_id c.args.place)))) < length (from (option_map g.S.LinkStore.atom_id o) (with_functor (g.S.LinkStore.heap c.args.store.now) c.args.functor (atoms_in (g.S.LinkStore.heap c.args.store.now) (g.S.LinkStore.mem_id c.args.place))))) (sym c.in-Some.is)
+    (smaller (g.S.LinkStore.atom_id c.in-Some.atom) (option_map g.S.LinkStore.atom_id c.next_with-next.result) (option_map g.S.LinkStore.atom_id c.further_candidate-candidate.result) (with_functor (g.S.LinkStore.heap c.args.store.now) c.args.functor (atoms_in (g.S.LinkStore.heap c.args.store.now) (g.S.LinkStore.mem_id c.args.place))) (next.0 (g.S.LinkStore.mem_id c.args.place) c.args.functor there.1 there.0) further)
 
 pub search_atoms-loop-candidate-preserved : goal.search_atoms-loop-candidate-preserved
 search_atoms-loop-candidate-preserved g t c =
@@ -236,21 +240,25 @@ search_atoms-loop-candidate-preserved g t c =
     let more = one_more c.args.set.now c.loop-candidate.set c.in-Some.atom c.push.new.self c.loop-candidate.invariant.set c.push.ensures in
     let searched = subst (λ k. Searched g.S.LinkStore.atom_id g.S.LinkStore.mem_id (g.S.LinkStore.heap c.args.store.now) k c.search.new.set false (drop (c.args.at + 1) c.args.code.now)) more (subst (λ b. Searched g.S.LinkStore.atom_id g.S.LinkStore.mem_id (g.S.LinkStore.heap c.args.store.now) (having_atoms c.loop-candidate.set c.push.new.self) c.search.new.set b (drop (c.args.at + 1) c.args.code.now)) c.if-search.false
     (subst (λ h. Searched g.S.LinkStore.atom_id g.S.LinkStore.mem_id h (having_atoms c.loop-candidate.set c.push.new.self) c.search.new.set c.search.result (drop (c.args.at + 1) c.args.code.now)) c.loop-candidate.invariant.same (c.search.ensures.searched.searched (c.lasts.ensures.some c.if-not-lasts.false)))) in
-    let taken = taken_back c.args.set.now c.search.new.set c.keep.new.self c.len-atoms.result c.len-membranes.result c.len-parts.result c.len-integers.result c.len-atoms.ensures c.len-membranes.ensures c.len-parts.ensures c.len-integers.ensures
+    let none = (atom_ahead (length c.args.set.now.atoms) (length c.args.set.now.membranes) (length c.args.set.now.parts) (length c.args.set.now.integers) (length c.args.set.now.atoms) c.requires.at.0 c.args.functor (drop c.args.at c.args.code.now) (drop (c.args.at + 1) c.args.code.now)
+    (drop_get c.args.at c.args.code.now (FindAtom (length c.args.set.now.atoms) c.requires.at.0 c.args.functor) c.requires.at.1) c.requires.order).0.3 in
+    let taken = taken_back c.args.set.now c.search.new.set c.keep.new.self c.len-atoms.result c.len-membranes.result 0 c.len-integers.result c.len-atoms.ensures c.len-membranes.ensures (sym none) c.len-integers.ensures
     (extends_on g.S.LinkStore.atom_id g.S.LinkStore.mem_id (g.S.LinkStore.heap c.args.store.now) c.args.set.now (with_atom c.args.set.now c.in-Some.atom) c.search.new.set (extends_atom g.S.LinkStore.atom_id g.S.LinkStore.mem_id (g.S.LinkStore.heap c.args.store.now) c.args.set.now c.in-Some.atom) searched.extends) c.keep.ensures in
     let there = subst (λ o. IfSome o (λ a. (functor_of (g.S.LinkStore.heap c.args.store.now) (g.S.LinkStore.atom_id a) ≡ Some c.args.functor) × (home_of (g.S.LinkStore.heap c.args.store.now) (g.S.LinkStore.atom_id a) ≡ Some (g.S.LinkStore.mem_id c.args.place)))) c.in-Some.is c.loop-candidate.invariant.there in
     let next = next_same g.S.LinkStore.atom_id (g.S.LinkStore.heap c.args.store.now) (g.S.LinkStore.heap c.search.new.store) c.in-Some.atom c.next_with-next.result same c.next_with-next.ensures.list c.next_with-next.ensures.functor c.next_with-next.ensures.home in
     let left = subst (λ o. AtomsLeft g.S.LinkStore.atom_id g.S.LinkStore.mem_id (g.S.LinkStore.heap c.args.store.now) c.args.set.now (drop c.args.at c.args.code.now) c.args.functor c.args.place o) c.in-Some.is c.loop-candidate.invariant.left in
-    let fit = subst (λ k. AtomsFit g.S.LinkStore.atom_id g.S.LinkStore.mem_id (g.S.LinkStore.heap c.args.store.now) k (drop (c.args.at + 1) c.args.code.now) c.args.functor (g.S.LinkStore.mem_id c.args.place) c.next_with-next.result c.further_atom-candidate.result) taken
-    (subst (λ h. AtomsFit g.S.LinkStore.atom_id g.S.LinkStore.mem_id h c.keep.new.self (drop (c.args.at + 1) c.args.code.now) c.args.functor (g.S.LinkStore.mem_id c.args.place) c.next_with-next.result c.further_atom-candidate.result) same c.further_atom-candidate.ensures.left) in
+    let fit = subst (λ k. AtomsFit g.S.LinkStore.atom_id g.S.LinkStore.mem_id (g.S.LinkStore.heap c.args.store.now) k (drop (c.args.at + 1) c.args.code.now) c.args.functor (g.S.LinkStore.mem_id c.args.place) c.next_with-next.result c.further_candidate-candidate.result) taken
+    (subst (λ h. AtomsFit g.S.LinkStore.atom_id g.S.LinkStore.mem_id h c.keep.new.self (drop (c.args.at + 1) c.args.code.now) c.args.functor (g.S.LinkStore.mem_id c.args.place) c.next_with-next.result c.further_candidate-candidate.result) same c.further_candidate-candidate.ensures.fits.left) in
     record {
       same = same;
       set = taken;
-      left = atoms_fit g.S.LinkStore.atom_id g.S.LinkStore.mem_id (g.S.LinkStore.heap c.args.store.now) c.args.set.now (drop c.args.at c.args.code.now) (drop (c.args.at + 1) c.args.code.now) c.args.functor c.requires.at.0 c.args.place c.next_with-next.result c.further_atom-candidate.result (drop_get c.args.at c.args.code.now (FindAtom (length c.args.set.now.atoms) c.requires.at.0 c.args.functor) c.requires.at.1)
+      left = atoms_fit g.S.LinkStore.atom_id g.S.LinkStore.mem_id (g.S.LinkStore.heap c.args.store.now) c.args.set.now (drop c.args.at c.args.code.now) (drop (c.args.at + 1) c.args.code.now) c.args.functor c.requires.at.0 c.args.place c.next_with-next.result c.further_candidate-candidate.result (drop_get c.args.at c.args.code.now (FindAtom (length c.args.set.now.atoms) c.requires.at.0 c.args.functor) c.requires.at.1)
           (atoms_next g.S.LinkStore.atom_id g.S.LinkStore.mem_id (g.S.LinkStore.heap c.args.store.now) c.args.set.now c.search.new.set (drop c.args.at c.args.code.now) (drop (c.args.at + 1) c.args.code.now) c.args.functor c.requires.at.0 c.args.place c.in-Some.atom c.next_with-next.result (drop_get c.args.at c.args.code.now (FindAtom (length c.args.set.now.atoms) c.requires.at.0 c.args.functor) c.requires.at.1) left searched (next.0 (g.S.LinkStore.mem_id c.args.place) c.args.functor there.1 there.0)) fit;
-      there = if_both (λ a. functor_of (g.S.LinkStore.heap c.args.store.now) (g.S.LinkStore.atom_id a) ≡ Some c.args.functor) (λ a. home_of (g.S.LinkStore.heap c.args.store.now) (g.S.LinkStore.atom_id a) ≡ Some (g.S.LinkStore.mem_id c.args.place)) c.further_atom-candidate.result
-          (subst (λ (h : Heap). IfSome c.further_atom-candidate.result (λ a. functor_of h (g.S.LinkStore.atom_id a) ≡ Some c.args.functor)) same c.further_atom-candidate.ensures.functor)
-          (subst (λ (h : Heap). IfSome c.further_atom-candidate.result (λ a. home_of h (g.S.LinkStore.atom_id a) ≡ Some (g.S.LinkStore.mem_id c.args.place))) same c.further_atom-candidate.ensures.home);
+      there = if_both (λ a. functor_of (g.S.LinkStore.heap c.args.store.now) (g.S.LinkStore.atom_id a) ≡ Some c.args.functor) (λ a. home_of (g.S.LinkStore.heap c.args.store.now) (g.S.LinkStore.atom_id a) ≡ Some (g.S.LinkStore.mem_id c.args.place)) c.further_candidate-candidate.result
+          (subst (λ (h : Heap). IfSome c.further_candidate-candidate.result (λ a. functor_of h (g.S.LinkStore.atom_id a) ≡ Some c.args.functor)) same c.further_candidate-candidate.ensures.fits.functor)
+          (subst (λ (h : Heap). IfSome c.further_candidate-candidate.result (λ a. home_of h (g.S.LinkStore.atom_id a) ≡ Some (g.S.LinkStore.mem_id c.args.place))) same c.further_candidate-candidate.ensures.fits.home);
+      apart = each_holds_up_to g.S.LinkStore.atom_id g.S.LinkStore.mem_id (g.S.LinkStore.heap c.args.store.now) c.args.set.now c.args.code.now (c.args.at + 1) c.start_behind-start-in-Some.result c.told_apart-other-in-Some.result c.further_candidate-candidate.result c.start_behind-start-in-Some.ensures
+          (subst (λ k. IfSome c.told_apart-other-in-Some.result (λ b. TellsApart k c.args.code.now (c.args.at + 1) b)) taken c.told_apart-other-in-Some.ensures) c.further_candidate-candidate.ensures.apart;
     }
 
 pub search_atoms-push-requires : goal.search_atoms-push-requires
@@ -261,6 +269,7 @@ search_atoms-push-requires g t c =
 
 pub search_atoms-search-requires : goal.search_atoms-search-requires
 search_atoms-search-requires g t c κs within =
+    let apart = subst (λ o. IfSome o (λ a. HoldsUpTo g.S.LinkStore.atom_id (c.args.set.now.atoms ++ a ∷ []) c.args.code.now (c.args.at + 1) c.loop-candidate.start)) c.in-Some.is c.loop-candidate.invariant.apart in
     let there = subst (λ o. IfSome o (λ a. (functor_of (g.S.LinkStore.heap c.args.store.now) (g.S.LinkStore.atom_id a) ≡ Some c.args.functor) × (home_of (g.S.LinkStore.heap c.args.store.now) (g.S.LinkStore.atom_id a) ≡ Some (g.S.LinkStore.mem_id c.args.place)))) c.in-Some.is c.loop-candidate.invariant.there in
     let more = one_more c.args.set.now c.loop-candidate.set c.in-Some.atom c.push.new.self c.loop-candidate.invariant.set c.push.ensures in
     let code = drop_get c.args.at c.args.code.now (FindAtom (length c.args.set.now.atoms) c.requires.at.0 c.args.functor) c.requires.at.1 in
@@ -283,7 +292,10 @@ search_atoms-search-requires g t c κs within =
                   subst (λ h. AreHeldWhole g.S.LinkStore.atom_id g.S.LinkStore.mem_id h (having_atoms c.loop-candidate.set c.push.new.self)) (sym c.loop-candidate.invariant.same) held,
                   (
                     omega arith,
-                    subst (λ k. HeadInOrder (length k.atoms) (length k.membranes) (length k.parts) (length k.integers) (drop (c.args.at + 1) c.args.code.now)) (sym more) next,
+                    (
+                      subst (λ k. HoldsUpTo g.S.LinkStore.atom_id k.atoms c.args.code.now (c.args.at + 1) c.loop-candidate.start) (sym more) apart,
+                      subst (λ k. HeadInOrder (length k.atoms) (length k.membranes) (length k.parts) (length k.integers) (drop (c.args.at + 1) c.args.code.now)) (sym more) next,
+                    ),
                   ),
                 ),
               ),
@@ -503,5 +515,5 @@ search_membranes-overflow_add-rest g t c =
 pub search-loop-i-init : goal.search-loop-i-init
 search-loop-i-init g t c = record {
   same = refl;
-  passed = passed_none g.S.LinkStore.atom_id g.S.LinkStore.mem_id (g.S.LinkStore.heap c.args.store.now) c.args.set.now (drop c.args.at c.args.code.now) c.requires.held c.requires.order;
+  passed = passed_up_to g.S.LinkStore.atom_id g.S.LinkStore.mem_id (g.S.LinkStore.heap c.args.store.now) c.args.set.now c.args.code.now c.args.at c.args.start c.requires.start c.requires.held c.requires.order;
 }

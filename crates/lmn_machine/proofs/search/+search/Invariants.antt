@@ -1,9 +1,10 @@
-use Rattle.std.proofs.Common.{◌≡◌, ◌+◌, ◌-◌, ◌*◌, length, drop, Some}
+use Rattle.std.proofs.Common.{◌≡◌, [], ◌∷◌, ◌++◌, ◌+◌, ◌-◌, ◌*◌, length, drop, Some}
 use Rattle.std.specs.Prelude.{IfSome}
 use Rattle.std.specs.Option.{option_map}
 use Rattle.lmn_store_heap.specs.Lists.{from}
 use Rattle.lmn_store_heap.specs.Heap.{functor_of, home_of, parent_of, atoms_in, mems_in}
 use Rattle.lmn_store_heap.specs.Functors.{with_functor}
+use Rattle.lmn_machine.specs.Asking.{HoldsUpTo}
 use Rattle.lmn_machine.proofs.Stepping.{Passed}
 use Rattle.lmn_machine.proofs.Choosing.{AtomsLeft, MembranesLeft}
 use Rattle.lmn_machine.proofs.search.+search.Given as goal
@@ -51,6 +52,7 @@ invariant-search_atoms-loop-candidate g l = record {
   left : AtomsLeft g.S.LinkStore.atom_id g.S.LinkStore.mem_id (g.S.LinkStore.heap l.fn.store) l.fn.set (drop l.at l.code) l.fn.functor l.fn.place l.candidate;
   there : IfSome l.candidate (λ a. (functor_of (g.S.LinkStore.heap l.fn.store) (g.S.LinkStore.atom_id a) ≡ Some l.fn.functor) ×
       (home_of (g.S.LinkStore.heap l.fn.store) (g.S.LinkStore.atom_id a) ≡ Some (g.S.LinkStore.mem_id l.fn.place)));
+  apart : IfSome l.candidate (λ a. HoldsUpTo g.S.LinkStore.atom_id (l.fn.set.atoms ++ a ∷ []) l.code (l.at + 1) l.start);
 }
 
 abbrev pub decreases-search_atoms-loop-candidate : goal.decreases-search_atoms-loop-candidate
