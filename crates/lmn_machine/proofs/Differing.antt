@@ -1,6 +1,6 @@
 -- Code that only tells two atoms apart, and candidates that differ.
-use Rattle.std.proofs.Common.{ℕ, ◌≡◌, ◌≢◌, ◌<◌, ◌≤◌, ◌+◌, inl, inr, List, [], ◌∷◌, ◌++◌, Option, Some, None, refl, arith, sym, subst, length, drop, ◌∙◌}
-use Rattle.std.specs.Prelude.{true, slice_get, IfSome, MatchOption}
+use Rattle.std.proofs.Common.{ℕ, ◌≡◌, ◌≢◌, ◌+◌, inl, inr, List, [], ◌∷◌, ◌++◌, Option, Some, None, refl, arith, sym, subst, length, drop, ◌∙◌}
+use Rattle.std.specs.Prelude.{true, IfSome, MatchOption}
 use Rattle.std.proofs.lemmas.Option.{slice_get_within}
 use Rattle.lmn_base.proofs.Lists.{drop_get, get_front, get_last}
 use Rattle.lmn_store_heap.specs.Heap.{Heap}

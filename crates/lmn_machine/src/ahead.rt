@@ -290,6 +290,7 @@ pub fn first_candidate<S: LinkStore>(
 }
 
 /// Whether an instruction looks for an atom in a membrane that is set and holds none with the functor.
+#[inline(always)]
 fn looks_in_vain<S: LinkStore>(
     store: &S,
     instr: &Instr,

@@ -15,7 +15,7 @@ use Rattle.lmn_machine.specs.Searching.{AreHeldWhole, Extends, HeadInOrder, Sear
 use Rattle.lmn_machine_registers.specs.declared.stack.TheConstants.{ROOM}
 use Rattle.lmn_machine.specs.Jumping.{Lasted, with_atom, with_membrane}
 use Rattle.lmn_machine.proofs.Differing.{each_holds_up_to, passed_up_to}
-use Rattle.lmn_machine.proofs.Trying.{given_up, lasted, lasted_by, passed_lasted, passed_none}
+use Rattle.lmn_machine.proofs.Trying.{given_up, lasted, lasted_by, passed_lasted}
 use Rattle.lmn_machine.proofs.Telling.{atoms_chosen, membranes_chosen}
 use Rattle.lmn_machine.proofs.Stepping.{Passed, extends_itself, extends_on, passed_one, failed, passed_all}
 use Rattle.lmn_machine.proofs.Choosing.{AtomsLeft, MembranesLeft, extends_atom, extends_membrane, atoms_first, atoms_next, atoms_none, atoms_found, membranes_first, membranes_next, membranes_none, membranes_found, held_atom, held_membrane}
