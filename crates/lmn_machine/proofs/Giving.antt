@@ -1,10 +1,10 @@
 -- Instructions that set a register of an integer.
-use Rattle.std.proofs.Common.{ℕ, ℤ, ◌≡◌, ◌+◌, inl, inr, List, [], ◌∷◌, ◌++◌, Option, Some, None, refl, arith, ap, sym, subst, length, ◌∙◌, FitsSigned, w64, to_z, of_z}
+use Rattle.std.proofs.Common.{ℕ, ℤ, ◌≡◌, ◌+◌, inl, inr, List, [], ◌∷◌, ◌++◌, Option, Some, None, refl, arith, ap, sym, subst, length, ◌∙◌, FitsSigned, w64}
 use Rattle.std.specs.Prelude.{Bool, true, slice_get}
-use Rattle.std.proofs.lemmas.Int.{to_z-of_z}
 use Rattle.lmn_base.specs.declared.guard.Arith.TheVariants as arithmetic
 use Rattle.lmn_store_heap.specs.Heap.{Heap, functor_of}
 use Rattle.lmn_guards.specs.Values.{result_of}
+use Rattle.lmn_guards.proofs.ValueLemmas.{cast, uncast}
 use Rattle.lmn_solid_heads.specs.Guards.{integer_at, integer_of_functor}
 use Rattle.lmn_instr_code.specs.declared.instr.Instr.{Instr}
 use Rattle.lmn_instr_code.specs.declared.instr.Instr.TheVariants.{GetInt, Const, Add, Sub, Mul, Div, Mod}
@@ -20,13 +20,6 @@ use Rattle.std.proofs.lemmas.List.{length_push}
 -- one integer more is set
 abbrev pub with_integer : {A M : Type 0} → SetRegisters A M → ℤ → SetRegisters A M
 with_integer g z = record g { integers = g.integers ++ z ∷ [] }
-
--- an argument of a call, as its contract sees it
-abbrev cast : ℤ → ℤ
-cast z = to_z w64 (of_z w64 z)
-
-uncast : (f : ℤ → ℤ → Option ℤ) (m n : ℤ) → FitsSigned w64 m → FitsSigned w64 n → f (cast m) (cast n) ≡ f m n
-uncast f m n p q = ap (λ x. f x (cast n)) (to_z-of_z w64 m p) ∙ ap (λ x. f m x) (to_z-of_z w64 n q)
 
 module _ {A M : Type 0} (atom : A → ℕ) (membrane : M → ℕ) (h : Heap) where
   extends_integer : (g : SetRegisters A M) (z : ℤ) → Extends g (with_integer g z)
