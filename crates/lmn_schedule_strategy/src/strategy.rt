@@ -66,8 +66,13 @@ fn first_rule<S: LinkStore, L: Ledger>(
     ensures steps { MatchOption result (CountsUpTo (length (rules_in (S.heap machine.old.store) (S.mem_id membrane))) steps.old steps.new) (λ c. CountsUpTo (c.place + 1) steps.old steps.new) }
 {
     let rules = machine.store().rules(membrane);
-    for place in 0..rules {
-        let rule = machine.store().rule(membrane, place);
+    if rules == 0 {
+        return None;
+    }
+    let mut place = 0;
+    // Each rule is read before it is known whether another one is, so that the first is looked up where their number was.
+    let mut rule = machine.store().rule(membrane, 0);
+    loop {
         if succeeds(machine, codes, membrane, rule, steps) {
             return Some(Choice {
                 membrane,
@@ -75,8 +80,12 @@ fn first_rule<S: LinkStore, L: Ledger>(
                 rule,
             });
         }
+        place += 1;
+        if place >= rules {
+            return None;
+        }
+        rule = machine.store().rule(membrane, place);
     }
-    None
 }
 
 /// A membrane falls asleep if it may.

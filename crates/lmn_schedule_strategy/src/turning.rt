@@ -30,20 +30,19 @@ pub enum Turn {
     NoMemory,
 }
 
+/// Up to which number of items and of instructions it is told whether there is room: the product of two such numbers fits.
+const FEW: u64 = 2147483647;
+
 /// Whether so many items and, for each of `many` instructions, as many more and one are at most `size`. With the root counted they are a
-/// product. The answer is no where that is too large to be told.
+/// product. The answer is no where there are too many for that to be told.
 fn is_roomy(items: u64, many: u64, size: u64) -> bool
-    requires many { many < 2 ^ 63 }
     requires size { size < 2 ^ 64 - 1 }
     ensures { IsTrue result → items + many * (items + 1) ≤ size }
 {
-    let Some(all) = items.checked_add(1) else {
+    if items >= FEW || many >= FEW {
         return false;
-    };
-    match all.checked_mul(many + 1) {
-        Some(most) => most <= size + 1,
-        None => false,
     }
+    (items + 1) * (many + 1) <= size + 1
 }
 
 /// Whether the commit with a code leaves at most `size` items. They are counted only where there may be more: an instruction
@@ -95,6 +94,7 @@ fn fire<S: LinkStore>(
 /// rise by the rules of the awake membranes asked at most.
 /// Its name isn't `turn`, since the kit refuses a function and an enum of one module whose names differ in case
 /// alone.
+#[inline(always)]
 pub fn take_turn<S: LinkStore, L: Ledger>(
     alloc: Global,
     machine: &mut Machine<S>,
