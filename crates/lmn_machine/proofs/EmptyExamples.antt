@@ -1,15 +1,18 @@
 -- The examples of what the machine asks and answers.
-use Rattle.std.proofs.Common.{ℕ, ◌≡◌, inl, inr, [], pos, refl, sym, subst, ◌∙◌}
+use Rattle.std.proofs.Common.{ℕ, zero, suc, ◌≡◌, ◌<◌, inl, inr, [], ◌∷◌, Some, pos, refl, arith, sym, subst, ◌∙◌}
+use Rattle.std.specs.Prelude.{slice_get}
 use Rattle.lmn_store_heap.specs.Heap.{Heap, mem_mark_of}
 use Rattle.lmn_store_heap.specs.Conditions.{Above}
 use Rattle.lmn_store_trait.specs.Awake.{awake_mark}
+use Rattle.lmn_instr_code.specs.declared.instr.Instr.TheVariants.{NeqAtom}
 use Rattle.lmn_instr_code.specs.Running.{HeadRegisters}
 use Rattle.lmn_solid_bodies.specs.Running.{Registers}
 use Rattle.lmn_machine_commit.specs.Examples.{number}
 use Rattle.lmn_machine_commit.specs.Waking.{Commits, IsAwakeRound, IsRoused}
 use Rattle.lmn_machine_commit.proofs.Rules.{itself}
 use Rattle.lmn_machine_commit.proofs.Rousing.{no_marks}
-use Rattle.lmn_machine.specs.Examples.{EmptyHeadIsFound, EmptyHeadIsThere, EmptyBodyIsMatched, EmptyBodyFires, CopiesAreNotMatched}
+use Rattle.lmn_machine.specs.Asking.{HoldsUpTo}
+use Rattle.lmn_machine.specs.Examples.{EmptyHeadIsFound, EmptyHeadIsThere, EmptyBodyIsMatched, EmptyBodyFires, CopiesAreNotMatched, OtherAtomIsPassed, SameAtomIsNotPassed}
 use Rattle.lmn_machine.proofs.FromOne.{held_one}
 
 -- an empty head is found
@@ -61,3 +64,27 @@ empty_body_fires h awake p r agrees copies rests =
         others = λ x m. inl refl;
       };
     })
+
+-- another atom is passed
+pub other_atom_is_passed : OtherAtomIsPassed
+other_atom_is_passed = ((0, refl, refl), inr (refl, (1, 0, (7, 4, refl, refl, refl, λ e. absurd (omega (arith, e))))))
+
+four_alone : (y : ℕ) → slice_get {X = ℕ} (4 ∷ []) y ≡ Some 5 → ⊥
+four_alone zero e = clash 4 5 e (omega arith)
+  where
+    clash : (m n : ℕ) → Some m ≡ Some n → m < n → ⊥
+    clash m n t l = let f : m ≡ n = cc in omega (arith, f, l)
+four_alone (suc y) e = absurd (cc)
+
+fours_alone : (x a : ℕ) → slice_get {X = ℕ} (4 ∷ 4 ∷ []) x ≡ Some a → a ≡ 4
+fours_alone zero a e = cc
+fours_alone (suc zero) a e = cc
+fours_alone (suc (suc x)) a e = absurd (cc)
+
+-- the same one isn't
+pub same_atom_is_not_passed : SameAtomIsNotPassed
+same_atom_is_not_passed = (λ t. four_alone t.0 t.2, passed)
+  where
+    passed : HoldsUpTo number (4 ∷ 4 ∷ []) (NeqAtom 1 0 ∷ []) 0 1 → ⊥
+    passed (inl e) = absurd (omega (arith, e))
+    passed (inr (e, (x, y, (a, b, t, u, v, d)))) = d (fours_alone x a u ∙ sym (fours_alone y b v))

@@ -1,9 +1,12 @@
 -- Examples of what the machine asks and answers: of a rule in membrane 0, with handles that are their numbers.
 use Rattle.std.specs.Prelude.{ℕ, true, false, [], ◌∷◌}
+use Rattle.lmn_instr_code.specs.declared.instr.Instr.TheVariants.{NeqAtom}
 use Rattle.lmn_store_heap.specs.Heap.{Heap, IsMem}
 use Rattle.lmn_machine_registers.specs.declared.registers.PartCopy.{PartCopy}
 use Rattle.lmn_machine_commit.specs.Examples.{home_set, number}
 use Rattle.lmn_machine_commit.specs.Waking.{IsAwakeRound}
+use Rattle.lmn_machine.specs.Asking.{HoldsUpTo, TellsApart}
+use Rattle.lmn_machine.specs.Jumping.{with_atom}
 use Rattle.lmn_machine.specs.Firing.{FiresPrepared, HoldsMatch}
 use Rattle.lmn_machine.specs.Searching.{Looked}
 
@@ -26,3 +29,11 @@ CopiesAreNotMatched = (h : Heap) (c : PartCopy ℕ) → HoldsMatch number number
 -- an empty body that was prepared leaves the heap as it is, where its membrane is awake with all that is round it
 abbrev pub EmptyBodyFires : Type 0
 EmptyBodyFires = (h : Heap) → IsAwakeRound h 0 → FiresPrepared number number h (home_set []) [] h
+
+-- where code tells the next atom apart from the atom 4, which is set, it needn't be run with the atom 7
+abbrev pub OtherAtomIsPassed : Type 0
+OtherAtomIsPassed = TellsApart (with_atom (home_set []) 4) (NeqAtom 1 0 ∷ []) 0 4 × HoldsUpTo number (4 ∷ 7 ∷ []) (NeqAtom 1 0 ∷ []) 0 1
+
+-- it doesn't tell it apart from the atom 5, and with the atom 4 itself it has to be run
+abbrev pub SameAtomIsNotPassed : Type 0
+SameAtomIsNotPassed = (TellsApart (with_atom (home_set []) 4) (NeqAtom 1 0 ∷ []) 0 5 → ⊥) × (HoldsUpTo number (4 ∷ 4 ∷ []) (NeqAtom 1 0 ∷ []) 0 1 → ⊥)

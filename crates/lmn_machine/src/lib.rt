@@ -26,6 +26,6 @@ mod whole;
 pub use counting::Steps;
 pub use examples::{
     copies_are_not_matched, empty_body_fires, empty_body_is_matched, empty_head_is_found,
-    empty_head_is_there,
+    empty_head_is_there, other_atom_is_passed, same_atom_is_not_passed,
 };
 pub use machine::Machine;
