@@ -421,9 +421,13 @@ pub fn further_candidate<S: LinkStore>(
     ensures fits { IsFitting S.atom_id S.mem_id (S.heap store.now) set.now (drop at code.now) functor (S.mem_id place) start result }
     ensures apart { IfSome result (λ a. IfSome other (λ b. S.atom_id a ≢ S.atom_id b)) }
 {
-    match other {
-        Some(b) => further_other(store, code, at, place, functor, start, b, ask, set),
-        None => further_atom(store, code, at, place, functor, start, ask, set),
+    match start {
+        // Mostly there is none, and nothing is to be called.
+        None => None,
+        Some(_) => match other {
+            Some(b) => further_other(store, code, at, place, functor, start, b, ask, set),
+            None => further_atom(store, code, at, place, functor, start, ask, set),
+        },
     }
 }
 

@@ -8,11 +8,11 @@ ghost use Rattle.lmn_base.specs.Lists.{In};
 use lmn_base::Functor;
 use lmn_store_trait::LinkStore;
 
-/// Whether two functors are one.
+/// Whether two functors are one. The arities are looked at first, which costs less than the labels.
 fn same_functor(f: Functor, g: Functor) -> bool
     ensures { IsTrue result ↔ (f ≡ g) }
 {
-    f == g
+    f.arity == g.arity && f.label == g.label
 }
 
 /// The other end of a port; none too where the atom has no such port.
