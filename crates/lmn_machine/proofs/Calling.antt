@@ -1,11 +1,11 @@
 -- The code ahead.
-use Rattle.std.proofs.Common.{ℕ, ℤ, zero, suc, ◌≡◌, ◌<◌, ◌≤◌, ◌+◌, List, [], ◌∷◌, ◌++◌, Option, Some, None, refl, arith, ap, subst, length, take, drop, ◌∙◌}
-use Rattle.std.specs.Prelude.{slice_get, IfSome}
+use Rattle.std.proofs.Common.{ℕ, ℤ, not, zero, suc, ◌≡◌, ◌<◌, ◌≤◌, ◌+◌, List, [], ◌∷◌, ◌++◌, Option, Some, None, refl, arith, ap, subst, length, take, drop, ◌∙◌}
+use Rattle.std.specs.Prelude.{Bool, true, slice_get, IfSome}
 use Rattle.lmn_base.specs.declared.functor.Functor.{Functor}
 use Rattle.lmn_instr_code.specs.declared.instr.Instr.{Instr}
 use Rattle.lmn_instr_code.specs.declared.instr.Instr.TheVariants.{FindAtom, Deref, AnyMem, IsInt, IsUnary, IsGround, NAtoms, IsClosed, EqGround, NeqGround, GetInt, Const, Add, Sub, Mul, Div, Mod}
 use Rattle.lmn_machine.specs.Searching.{HeadInOrder, Extends}
-use Rattle.std.specs.Option.{option_map}
+use Rattle.std.specs.Option.{option_map, is_some}
 use Rattle.lmn_store_heap.specs.Lists.{from, after}
 use Rattle.lmn_store_heap.specs.Functors.{with_functor}
 use Rattle.lmn_store_heap.specs.Heap.{Heap, atoms_in, mems_in, functor_of, home_of, parent_of}
@@ -70,6 +70,11 @@ if_same F a v (Some b) p e = p ∙ e
 pub none_is : {A : Type 0} (o : Option A) → ((a : A) → o ≡ Some a → ⊥) → o ≡ None
 none_is None d = refl
 none_is (Some a) d = absurd (d a refl)
+
+-- what is told to be none is none
+pub told_none : {A : Type 0} (o : Option A) (b : Bool) → is_some o ≡ not b → b ≡ true → o ≡ None
+told_none None b e t = refl
+told_none (Some x) b e t = let f : true ≡ not true = e ∙ ap not t in absurd (cc)
 
 -- with other atoms, with other membranes
 abbrev pub having_atoms : {A M : Type 0} → SetRegisters A M → List A → SetRegisters A M

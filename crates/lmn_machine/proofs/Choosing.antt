@@ -132,6 +132,16 @@ module _ {A M : Type 0} (atom : A → ℕ) (membrane : M → ℕ) (h : Heap) whe
     none = λ u c s k a t. left.left c s k a t;
   }
 
+  -- likewise where the registers of the last candidate are left
+  pub atoms_gone : (g k : SetRegisters A M) (code : List Instr) (f : Functor) (m : M) → AreHeldWhole atom membrane h k → Extends g k → AtomsLeft g code f m None → Searched atom membrane h g k false code
+  atoms_gone g k code f m held extends left = record {
+    held = held;
+    extends = extends;
+    sets = λ u. absurd (cc);
+    found = λ u. absurd (cc);
+    none = λ u c s l a t. left.left c s l a t;
+  }
+
   pub atoms_found : (g k : SetRegisters A M) (code is : List Instr) (f : Functor) (y : ℕ) (m : M) (a : A) → code ≡ FindAtom (length g.atoms) y f ∷ is → slice_get g.membranes y ≡ Some m → Listed h →
       home_of h (atom a) ≡ Some (membrane m) → functor_of h (atom a) ≡ Some f → AtomsLeft g code f m (Some a) → Searched atom membrane h (with_atom g a) k true is → Searched atom membrane h g k true code
   atoms_found g k code is f y m a e at listed home functor left t = record {

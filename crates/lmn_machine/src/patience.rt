@@ -1,7 +1,7 @@
 //! How long a search goes on.
 ghost use Rattle.std.specs.Prelude.{◌≡◌, ◌<◌, IsTrue, IsFalse};
 
-/// How many candidates of choices may fail before a search is given up.
+/// How many candidates of choices may fail before a search is given up. Of atoms the last candidate isn't counted.
 #[derive(Drop)]
 pub struct Patience {
     left: u64,

@@ -275,12 +275,16 @@ fn search_atoms<S: LinkStore>(
         if search(store, code, rest, start, set, patience, trail) {
             return true;
         }
+        let next = store.next_with(atom);
+        // Behind the last candidate nothing is tried, so neither is it counted nor are registers taken back.
+        if next.is_none() {
+            return false;
+        }
         if !patience.lasts() {
             return false;
         }
         // No typed context is set before an atom is looked for.
         set.keep(atoms, membranes, 0, integers);
-        let next = store.next_with(atom);
         let other = ahead::told_apart(code, rest, ahead::instr_at(code, rest), another, set);
         start = ahead::start_behind(rest, other);
         candidate = ahead::further_candidate(

@@ -18,8 +18,8 @@ use Rattle.lmn_machine.proofs.Differing.{each_holds_up_to, passed_up_to}
 use Rattle.lmn_machine.proofs.Trying.{given_up, lasted, lasted_by, passed_lasted}
 use Rattle.lmn_machine.proofs.Telling.{atoms_chosen, membranes_chosen}
 use Rattle.lmn_machine.proofs.Stepping.{Passed, extends_itself, extends_on, passed_one, failed, passed_all}
-use Rattle.lmn_machine.proofs.Choosing.{AtomsLeft, MembranesLeft, extends_atom, extends_membrane, atoms_first, atoms_next, atoms_none, atoms_found, membranes_first, membranes_next, membranes_none, membranes_found, held_atom, held_membrane}
-use Rattle.lmn_machine.proofs.Calling.{read_at, drop_none, order_first, if_both, none_is, one_more, one_membrane_more, taken_back, having_atoms, having_membranes, next_same, next_mem_same, atom_ahead, membrane_ahead}
+use Rattle.lmn_machine.proofs.Choosing.{atoms_gone, AtomsLeft, MembranesLeft, extends_atom, extends_membrane, atoms_first, atoms_next, atoms_none, atoms_found, membranes_first, membranes_next, membranes_none, membranes_found, held_atom, held_membrane}
+use Rattle.lmn_machine.proofs.Calling.{told_none, read_at, drop_none, order_first, if_both, none_is, one_more, one_membrane_more, taken_back, having_atoms, having_membranes, next_same, next_mem_same, atom_ahead, membrane_ahead}
 use Rattle.lmn_machine.proofs.search.+search.Goals as goal
 use Rattle.lmn_base.proofs.Lists.{drop_get}
 use Rattle.std.proofs.lemmas.List.{length_push}
@@ -315,6 +315,23 @@ search_atoms-returns-then-search-clause-searched g t c =
     c.requires.valid.sound.listed there.1 there.0 left
     (subst (λ k. Searched g.S.LinkStore.atom_id g.S.LinkStore.mem_id (g.S.LinkStore.heap c.args.store.now) k c.search.new.set true (drop (c.args.at + 1) c.args.code.now)) more (subst (λ b. Searched g.S.LinkStore.atom_id g.S.LinkStore.mem_id (g.S.LinkStore.heap c.args.store.now) (having_atoms c.loop-candidate.set c.push.new.self) c.search.new.set b (drop (c.args.at + 1) c.args.code.now)) c.if-search.true
     (subst (λ h. Searched g.S.LinkStore.atom_id g.S.LinkStore.mem_id h (having_atoms c.loop-candidate.set c.push.new.self) c.search.new.set c.search.result (drop (c.args.at + 1) c.args.code.now)) c.loop-candidate.invariant.same (c.search.ensures.searched.found c.if-search.true)))))
+
+pub search_atoms-returns-then-is_none-clause-searched : goal.search_atoms-returns-then-is_none-clause-searched
+search_atoms-returns-then-is_none-clause-searched g t c =
+    let same : g.S.LinkStore.heap c.search.new.store ≡ g.S.LinkStore.heap c.args.store.now = c.search.ensures.same ∙ c.loop-candidate.invariant.same in
+    let more = one_more c.args.set.now c.loop-candidate.set c.in-Some.atom c.push.new.self c.loop-candidate.invariant.set c.push.ensures in
+    let code = drop_get c.args.at c.args.code.now (FindAtom (length c.args.set.now.atoms) c.requires.at.0 c.args.functor) c.requires.at.1 in
+    let there = subst (λ o. IfSome o (λ a. (functor_of (g.S.LinkStore.heap c.args.store.now) (g.S.LinkStore.atom_id a) ≡ Some c.args.functor) × (home_of (g.S.LinkStore.heap c.args.store.now) (g.S.LinkStore.atom_id a) ≡ Some (g.S.LinkStore.mem_id c.args.place)))) c.in-Some.is c.loop-candidate.invariant.there in
+    let next = next_same g.S.LinkStore.atom_id (g.S.LinkStore.heap c.args.store.now) (g.S.LinkStore.heap c.search.new.store) c.in-Some.atom c.next_with-next.result same c.next_with-next.ensures.list c.next_with-next.ensures.functor c.next_with-next.ensures.home in
+    let left = subst (λ o. AtomsLeft g.S.LinkStore.atom_id g.S.LinkStore.mem_id (g.S.LinkStore.heap c.args.store.now) c.args.set.now (drop c.args.at c.args.code.now) c.args.functor c.args.place o) c.in-Some.is c.loop-candidate.invariant.left in
+    let extends = extends_on g.S.LinkStore.atom_id g.S.LinkStore.mem_id (g.S.LinkStore.heap c.args.store.now) c.args.set.now (with_atom c.args.set.now c.in-Some.atom) c.search.new.set (extends_atom g.S.LinkStore.atom_id g.S.LinkStore.mem_id (g.S.LinkStore.heap c.args.store.now) c.args.set.now c.in-Some.atom) (subst (λ k. Extends k c.search.new.set) more c.search.ensures.searched.extends) in
+    let held = subst (λ h. AreHeldWhole g.S.LinkStore.atom_id g.S.LinkStore.mem_id h c.search.new.set) c.loop-candidate.invariant.same c.search.ensures.searched.held in
+    lasted_by g.S.LinkStore.atom_id g.S.LinkStore.mem_id (g.S.LinkStore.heap c.args.store.now) c.search.new.patience.left c.args.set.now c.search.new.set (drop c.args.at c.args.code.now) held extends
+    (λ l. (let searched = subst (λ k. Searched g.S.LinkStore.atom_id g.S.LinkStore.mem_id (g.S.LinkStore.heap c.args.store.now) k c.search.new.set false (drop (c.args.at + 1) c.args.code.now)) more (subst (λ b. Searched g.S.LinkStore.atom_id g.S.LinkStore.mem_id (g.S.LinkStore.heap c.args.store.now) (having_atoms c.loop-candidate.set c.push.new.self) c.search.new.set b (drop (c.args.at + 1) c.args.code.now)) c.if-search.false
+    (subst (λ h. Searched g.S.LinkStore.atom_id g.S.LinkStore.mem_id h (having_atoms c.loop-candidate.set c.push.new.self) c.search.new.set c.search.result (drop (c.args.at + 1) c.args.code.now)) c.loop-candidate.invariant.same (c.search.ensures.searched.searched l))) in
+    atoms_gone g.S.LinkStore.atom_id g.S.LinkStore.mem_id (g.S.LinkStore.heap c.args.store.now) c.args.set.now c.search.new.set (drop c.args.at c.args.code.now) c.args.functor c.args.place held extends
+    (subst (λ o. AtomsLeft g.S.LinkStore.atom_id g.S.LinkStore.mem_id (g.S.LinkStore.heap c.args.store.now) c.args.set.now (drop c.args.at c.args.code.now) c.args.functor c.args.place o) (told_none c.next_with-next.result c.is_none.result c.is_none.ensures c.if-is_none.true)
+    (atoms_next g.S.LinkStore.atom_id g.S.LinkStore.mem_id (g.S.LinkStore.heap c.args.store.now) c.args.set.now c.search.new.set (drop c.args.at c.args.code.now) (drop (c.args.at + 1) c.args.code.now) c.args.functor c.requires.at.0 c.args.place c.in-Some.atom c.next_with-next.result code left searched (next.0 (g.S.LinkStore.mem_id c.args.place) c.args.functor there.1 there.0)))))
 
 pub search_atoms-returns-then-not-lasts-clause-searched : goal.search_atoms-returns-then-not-lasts-clause-searched
 search_atoms-returns-then-not-lasts-clause-searched g t c =
