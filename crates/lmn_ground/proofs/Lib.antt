@@ -31,3 +31,4 @@ pub mod PlaceLaws
 pub mod TwinLaws
 pub mod PlacingLaws
 pub mod MeasureLaws
+pub mod ListedLaws

@@ -1,11 +1,11 @@
 -- The list that a walk leaves of its atoms, and what is done along it.
-use Rattle.std.proofs.Common.{◌≡◌, ◌≢◌, ℕ, ◌+◌, ◌<◌, ◌≤◌, Bool, true, false, List, [], ◌∷◌, ◌++◌, length, map, drop, Option, Some, None, IsSome, refl, sym, ap, subst, ◌∙◌, inl, inr, arith, length-append, if◌then◌else◌}
+use Rattle.std.proofs.Common.{◌≡◌, ◌≢◌, ℕ, ◌+◌, ◌<◌, Bool, true, false, List, [], ◌∷◌, ◌++◌, length, map, drop, Option, Some, None, IsSome, refl, sym, ap, subst, ◌∙◌, inl, inr, arith, length-append, if◌then◌else◌}
 use Rattle.std.specs.Prelude.{slice_get, slice_index_or}
 use Rattle.lmn_base.specs.Graphs.{Reached}
 use Rattle.lmn_base.specs.Lists.{In}
 use Rattle.std.proofs.lemmas.Bool.{cases_eq}
 use Rattle.std.specs.Option.{option_and_then, option_map}
-use Rattle.lmn_store_heap.specs.Heap.{Heap, HeapAtom, Distinct, IsAtom, IsInPlace, alter, arity_of, gone, home_of, marks_of, partners_of, taken, with_place}
+use Rattle.lmn_store_heap.specs.Heap.{Heap, HeapAtom, Distinct, IsAtom, arity_of, gone, marks_of, partners_of, taken, with_place}
 use Rattle.lmn_store_heap.specs.Graphs.{atom_map}
 use Rattle.lmn_store_heap.specs.Sound.{Sound}
 use Rattle.lmn_store_heap.proofs.ListLemmas.{each_in}
@@ -136,10 +136,10 @@ module _ (s : Heap) (root : ℕ × ℕ) (xs : List ℕ) (sound : Sound s) (port 
   pub part_marks : (x : ℕ) → In x xs → 0 < length (marks_of (s.atoms x))
   part_marks x k = let m = sound.shaped.marks x (part_there x k) in omega (arith, m)
 
--- A part is walked alike in a heap that has its atoms.
-module _ (s t : Heap) (root : ℕ × ℕ) (xs : List ℕ) (same : (a : ℕ) → In a xs → t.atoms a ≡ s.atoms a) where
+-- A part is walked alike in a heap in which its atoms are joined as in this one.
+module _ (s t : Heap) (root : ℕ × ℕ) (xs : List ℕ) (same : (a : ℕ) → In a xs → partners_of (t.atoms a) ≡ partners_of (s.atoms a)) where
   same_next : (p : ℕ × ℕ) → In p.0 xs → neighbour (net t) root (λ _. true) p ≡ neighbour (net s) root (λ _. true) p
-  same_next p k = ap (λ (o : Option HeapAtom). if is_port p root then None else option_and_then (kept (λ _. true)) (slice_index_or (partners_of o) p.1 None)) (same p.0 k)
+  same_next p k = ap (λ ls. if is_port p root then None else option_and_then (kept (λ _. true)) (slice_index_or ls p.1 None)) (same p.0 k)
 
   walk_kept : {seen : List ℕ} {ps : List (ℕ × ℕ)} → Walk (net s).arity (neighbour (net s) root (λ _. true)) seen ps xs → ((p : ℕ × ℕ) → HasPort p ps → In p.0 xs)
       → Walk (net t).arity (neighbour (net t) root (λ _. true)) seen ps xs
@@ -148,7 +148,7 @@ module _ (s t : Heap) (root : ℕ × ℕ) (xs : List ℕ) (same : (a : ℕ) → 
       passes (λ b e. h b (sym (same_next p (inside p (inl refl))) ∙ e)) (walk_kept w (λ q k. inside q (inr k)))
   walk_kept (finds {seen = seen} {ps = ps} {p = p} {b = b} e n w) inside =
       let found : In b xs = kept_seen _ _ w b (in_last b seen) in
-      let arity : arity_of t b ≡ arity_of s b = ap (λ (o : Option HeapAtom). length (partners_of o)) (same b found) in
+      let arity : arity_of t b ≡ arity_of s b = ap length (same b found) in
       finds (same_next p (inside p (inl refl)) ∙ e) n
       (subst (λ (k : ℕ). Walk (net t).arity (neighbour (net t) root (λ _. true)) (seen ++ b ∷ []) (port_range b 0 k ++ ps) xs) (sym arity)
       (walk_kept w (λ q k. elim (either_port b 0 (arity_of s b) ps q k) [
@@ -159,6 +159,6 @@ module _ (s t : Heap) (root : ℕ × ℕ) (xs : List ℕ) (same : (a : ℕ) → 
   pub part_kept : IsPartInDepth s root xs → IsPartInDepth t root xs
   part_kept part =
       let first : In root.0 xs = kept_seen _ _ part root.0 (inl refl) in
-      let arity : arity_of t root.0 ≡ arity_of s root.0 = ap (λ (o : Option HeapAtom). length (partners_of o)) (same root.0 first) in
+      let arity : arity_of t root.0 ≡ arity_of s root.0 = ap length (same root.0 first) in
       subst (λ (k : ℕ). Walk (net t).arity (neighbour (net t) root (λ _. true)) (root.0 ∷ []) (port_range root.0 0 k) xs) (sym arity)
       (walk_kept part (λ p k. ports_in xs root.0 0 (arity_of s root.0) first p k))

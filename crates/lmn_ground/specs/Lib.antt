@@ -6,3 +6,4 @@ pub mod Rests
 pub mod RestExamples
 pub mod Stands
 pub mod Deeds
+pub mod Listed

@@ -1,18 +1,20 @@
 //! A part is copied.
-ghost use Rattle.std.specs.Prelude.{◌≡◌, ◌<◌, ℕ, List, [], None, IfOk, IsTrue, OnErr, OnOk, length, map};
+ghost use Rattle.std.specs.Prelude.{◌≡◌, ◌≢◌, ◌<◌, ℕ, List, [], None, IfOk, IfSome, IsTrue, OnErr, OnOk, false, length, map, slice_get};
 ghost use Rattle.lmn_store_heap.specs.Conditions.{Alone};
 ghost use Rattle.lmn_store_heap.specs.Heap.{IsAtom, arity_of, PortsUnmarked};
 ghost use Rattle.lmn_store_heap.specs.Splice.{IsPort};
+ghost use Rattle.lmn_ground.specs.Listed.{IsListed};
 ghost use Rattle.lmn_ground.specs.Marks.{first_marks};
 ghost use Rattle.lmn_ground.specs.Spread.{CleanPart, IsWhole, Numbered};
 ghost use Rattle.lmn_ground.specs.Copies.{Copying, Made, Remains, unmarked_all};
 ghost use Rattle.lmn_ground_parts.specs.Copies.{AllAtoms, Copied, LeadsOut, all_joined, joined_like, ports_of, answer};
-ghost use Rattle.lmn_ground_parts.specs.Walks.{IsPartInDepth, port_range};
+ghost use Rattle.lmn_ground_parts.specs.Walks.{IsPartInDepth, is_port, port_range};
 ghost use Rattle.lmn_base.specs.Lists.{In};
 
 use crate::equality::is_same_port;
 use crate::found::Found;
 use crate::gather::{clear, list_part};
+use crate::listing::{PartList, is_listed};
 use crate::marks::{FIRST_NUMBER, PORTS};
 use crate::seek::arity;
 use lmn_base::NoMemory;
@@ -57,6 +59,35 @@ fn copy_of<S: LinkStore>(
     *copies.at(number as usize)
 }
 
+/// Joins the copy `c` of an atom at a port, which isn't the root, to the copy of the port's partner.
+#[inline(always)]
+fn join_inner_port<S: LinkStore>(
+    store: &mut S,
+    root: (S::Atom, u8),
+    atoms: &Found<S::Atom>,
+    copies: &Found<S::Atom>,
+    a: S::Atom,
+    c: S::Atom,
+    i: u8,
+)
+    requires copying { Copying (S.heap store.old) (S.atom_id root.0, root.1) (map S.atom_id atoms.now) (map S.atom_id copies.now) }
+    requires numbers { Numbered (first_marks (S.heap store.old)) 2 (map S.atom_id atoms.now) }
+    requires among { In (S.atom_id a) (map S.atom_id atoms.now) }
+    requires copy { S.atom_id c ≡ answer (map S.atom_id atoms.now) (map S.atom_id copies.now) (S.atom_id a) }
+    requires port { i < arity_of (S.heap store.old) (S.atom_id a) }
+    requires inner { is_port (S.atom_id a, i) (S.atom_id root.0, root.1) ≡ false }
+    ensures { S.heap store.new ≡ joined_like (answer (map S.atom_id atoms.now) (map S.atom_id copies.now)) (S.atom_id root.0, root.1) (S.heap store.old) (S.atom_id a, i) }
+{
+    // The copy of a port is joined when the first of the two ports is met.
+    if store.partner(c, i).is_some() {
+        return;
+    }
+    if let Some((b, j)) = store.partner(a, i) {
+        let d = copy_of(store, atoms, copies, b);
+        store.join(c, i, d, j);
+    }
+}
+
 /// Joins the copy `c` of an atom at a port to the copy of the port's partner.
 fn join_port<S: LinkStore>(
     store: &mut S,
@@ -77,18 +108,11 @@ fn join_port<S: LinkStore>(
     if is_same_port(store, (a, i), root) {
         return;
     }
-    // The copy of a port is joined when the first of the two ports is met.
-    if store.partner(c, i).is_some() {
-        return;
-    }
-    if let Some((b, j)) = store.partner(a, i) {
-        let d = copy_of(store, atoms, copies, b);
-        store.join(c, i, d, j);
-    }
+    join_inner_port(store, root, atoms, copies, a, c, i);
 }
 
-/// Joins the copies of an atom's ports, which are those of its copy `c`.
-fn join_ports<S: LinkStore>(
+/// Joins the copies of the ports of the root's atom, which are those of its copy `c`.
+fn join_first_ports<S: LinkStore>(
     store: &mut S,
     root: (S::Atom, u8),
     atoms: &Found<S::Atom>,
@@ -107,7 +131,29 @@ fn join_ports<S: LinkStore>(
     }
 }
 
-/// Joins the copies as the atoms of the part.
+/// Joins the copies of the ports of another atom, which are those of its copy `c`.
+#[inline(always)]
+fn join_ports<S: LinkStore>(
+    store: &mut S,
+    root: (S::Atom, u8),
+    atoms: &Found<S::Atom>,
+    copies: &Found<S::Atom>,
+    a: S::Atom,
+    c: S::Atom,
+)
+    requires copying { Copying (S.heap store.old) (S.atom_id root.0, root.1) (map S.atom_id atoms.now) (map S.atom_id copies.now) }
+    requires numbers { Numbered (first_marks (S.heap store.old)) 2 (map S.atom_id atoms.now) }
+    requires among { In (S.atom_id a) (map S.atom_id atoms.now) }
+    requires copy { S.atom_id c ≡ answer (map S.atom_id atoms.now) (map S.atom_id copies.now) (S.atom_id a) }
+    requires other { S.atom_id a ≢ S.atom_id root.0 }
+    ensures { S.heap store.new ≡ all_joined (answer (map S.atom_id atoms.now) (map S.atom_id copies.now)) (S.atom_id root.0, root.1) (S.heap store.old) (port_range (S.atom_id a) 0 (arity_of (S.heap store.old) (S.atom_id a))) }
+{
+    for i in 0..arity(store, a) {
+        join_inner_port(store, root, atoms, copies, a, c, i);
+    }
+}
+
+/// Joins the copies as the atoms of the part, of which that of the root is the first.
 pub fn join_copies<S: LinkStore>(
     store: &mut S,
     root: (S::Atom, u8),
@@ -116,9 +162,11 @@ pub fn join_copies<S: LinkStore>(
 )
     requires copying { Copying (S.heap store.old) (S.atom_id root.0, root.1) (map S.atom_id atoms.now) (map S.atom_id copies.now) }
     requires numbers { Numbered (first_marks (S.heap store.old)) 2 (map S.atom_id atoms.now) }
+    requires first { IfSome (slice_get atoms.now 0) (λ a. S.atom_id a ≡ S.atom_id root.0) }
     ensures { S.heap store.new ≡ all_joined (answer (map S.atom_id atoms.now) (map S.atom_id copies.now)) (S.atom_id root.0, root.1) (S.heap store.old) (ports_of (S.heap store.old) (map S.atom_id atoms.now)) }
 {
-    for k in 0..atoms.len() {
+    join_first_ports(store, root, atoms, copies, *atoms.at(0), *copies.at(0));
+    for k in 1..atoms.len() {
         join_ports(store, root, atoms, copies, *atoms.at(k), *copies.at(k));
     }
 }
@@ -187,37 +235,68 @@ fn copy_lone<S: LinkStore>(
     })
 }
 
-/// Copies a part, as `copy` does, and tells how many atoms it has. `trail` has the atoms of the part then, in the order in which
-/// they are found. With `listed` it has them before: the part is not walked.
-pub fn copy_counted<S: LinkStore>(
+/// Copies a part and lists it; where it is listed before, it is not walked.
+fn copy_listed<S: LinkStore>(
     alloc: Global,
     store: &mut S,
     root: (S::Atom, u8),
-    trail: &mut Found<S::Atom>,
-    listed: bool,
+    list: &mut PartList<S::Atom>,
 ) -> Result<CountedCopy<S::Atom>, NoMemory>
     requires root { IsPort (S.heap store.old) (S.atom_id root.0) root.1 }
     requires clean { PortsUnmarked (S.heap store.old) }
     requires ground { IsWhole (S.heap store.old) (S.atom_id root.0, root.1) None }
     requires outside { LeadsOut (S.heap store.old) (S.atom_id root.0, root.1) }
-    requires listed { IsTrue listed → IsPartInDepth (S.heap store.old) (S.atom_id root.0, root.1) (map S.atom_id trail.old) }
+    requires listed { IsListed S.atom_id (S.heap store.old) list.old }
     ensures ok { IfOk result (λ c. Copied (S.heap store.old) (S.heap store.new) (S.atom_id root.0, root.1) (S.atom_id c.root.0, c.root.1)
-        × IsPartInDepth (S.heap store.old) (S.atom_id root.0, root.1) (map S.atom_id trail.new) × (c.atoms ≡ length trail.new)) }
+        × IsPartInDepth (S.heap store.old) (S.atom_id root.0, root.1) (map S.atom_id list.new.atoms) × (c.atoms ≡ length list.new.atoms)) }
     ensures err { OnErr result (Remains (S.heap store.old) (S.heap store.new)) }
     ensures alone { Alone (S.heap store.old) → Alone (S.heap store.new) }
 {
     let ports = arity(store, root.0);
     if ports == 1 {
-        return copy_lone(alloc, store, root, trail);
+        return copy_lone(alloc, store, root, &mut list.atoms);
     }
-    let copied = copy_marked(alloc, store, root, trail, listed);
-    clear(store, trail);
+    let listed = is_listed(store, list, root);
+    let copied = copy_marked(alloc, store, root, &mut list.atoms, listed);
+    clear(store, &list.atoms);
     match copied {
         Ok(copy) => Ok(CountedCopy {
             root: (copy, root.1),
-            atoms: trail.len() as u64,
+            atoms: list.atoms.len() as u64,
         }),
         Err(NoMemory) => Err(NoMemory),
+    }
+}
+
+/// Copies a part, as `copy` does, and tells how many atoms it has. Its atoms are listed then; where they are listed before, the part is not
+/// walked.
+pub fn copy_counted<S: LinkStore>(
+    alloc: Global,
+    store: &mut S,
+    root: (S::Atom, u8),
+    list: &mut PartList<S::Atom>,
+) -> Result<CountedCopy<S::Atom>, NoMemory>
+    requires root { IsPort (S.heap store.old) (S.atom_id root.0) root.1 }
+    requires clean { PortsUnmarked (S.heap store.old) }
+    requires ground { IsWhole (S.heap store.old) (S.atom_id root.0, root.1) None }
+    requires outside { LeadsOut (S.heap store.old) (S.atom_id root.0, root.1) }
+    requires listed { IsListed S.atom_id (S.heap store.old) list.old }
+    ensures ok { IfOk result (λ c. Copied (S.heap store.old) (S.heap store.new) (S.atom_id root.0, root.1) (S.atom_id c.root.0, c.root.1)
+        × IsPartInDepth (S.heap store.old) (S.atom_id root.0, root.1) (map S.atom_id list.new.atoms) × (c.atoms ≡ length list.new.atoms)) }
+    ensures err { OnErr result (Remains (S.heap store.old) (S.heap store.new)) }
+    ensures listed { IsListed S.atom_id (S.heap store.old) list.new }
+    ensures alone { Alone (S.heap store.old) → Alone (S.heap store.new) }
+{
+    let _arity = arity(store, root.0);
+    match copy_listed(alloc, store, root, list) {
+        Ok(copy) => {
+            list.port = root.1;
+            Ok(copy)
+        }
+        Err(NoMemory) => {
+            list.forget();
+            Err(NoMemory)
+        }
     }
 }
 
@@ -242,9 +321,12 @@ pub fn copy<S: LinkStore>(
     ensures err { OnErr result (Remains (S.heap store.old) (S.heap store.new)) }
     ensures alone { Alone (S.heap store.old) → Alone (S.heap store.new) }
 {
-    let mut trail = Found::new(alloc);
-    trail.reserve(FEW);
-    match copy_counted(alloc, store, root, &mut trail, false) {
+    let mut list = PartList {
+        port: 0,
+        atoms: Found::new(alloc),
+    };
+    list.atoms.reserve(FEW);
+    match copy_counted(alloc, store, root, &mut list) {
         Ok(copied) => Ok(copied.root),
         Err(NoMemory) => Err(NoMemory),
     }

@@ -14,7 +14,7 @@ use lmn_store_trait::LinkStore;
 
 /// Does a deed to each of these atoms.
 #[inline(always)]
-fn act_all<S: LinkStore>(store: &mut S, atoms: &Found<S::Atom>, deed: Deed)
+pub fn act_all<S: LinkStore>(store: &mut S, atoms: &Found<S::Atom>, deed: Deed)
     requires there { AllAtoms (S.heap store.old) (map S.atom_id atoms.now) }
     requires once { Distinct (map S.atom_id atoms.now) }
     requires can { CanDo deed (map S.atom_id atoms.now) (S.heap store.old) }

@@ -12,7 +12,7 @@ use Rattle.lmn_machine.specs.Searching.{AreHeldWhole, IsHeldPart}
 module _ {A M : Type 0} (atom : A → ℕ) (membrane : M → ℕ) (h : Heap) (g : SetRegisters A M) (held : AreHeldWhole atom membrane h g) where
   -- the handles are held
   pub held_for_body : body.AreHeld atom membrane h g
-  held_for_body = record { atoms = held.atoms; membranes = held.membranes; parts = held.parts }
+  held_for_body = record { atoms = held.atoms; membranes = held.membranes; parts = held.parts; listed = held.listed }
 
   -- each part stands in one membrane
   pub parts_home : AreAtHome atom h g.parts

@@ -1,10 +1,11 @@
 -- The code ahead.
-use Rattle.std.proofs.Common.{ℕ, ℤ, not, zero, suc, ◌≡◌, ◌<◌, ◌≤◌, ◌+◌, List, [], ◌∷◌, ◌++◌, Option, Some, None, refl, arith, ap, subst, length, take, drop, ◌∙◌}
+use Rattle.std.proofs.Common.{sym, ℕ, ℤ, not, zero, suc, ◌≡◌, ◌<◌, ◌≤◌, ◌+◌, List, [], ◌∷◌, ◌++◌, Option, Some, None, refl, arith, ap, subst, length, take, drop, ◌∙◌}
 use Rattle.std.specs.Prelude.{Bool, true, slice_get, IfSome}
 use Rattle.lmn_base.specs.declared.functor.Functor.{Functor}
 use Rattle.lmn_instr_code.specs.declared.instr.Instr.{Instr}
 use Rattle.lmn_instr_code.specs.declared.instr.Instr.TheVariants.{FindAtom, Deref, AnyMem, IsInt, IsUnary, IsGround, NAtoms, IsClosed, EqGround, NeqGround, GetInt, Const, Add, Sub, Mul, Div, Mod}
-use Rattle.lmn_machine.specs.Searching.{HeadInOrder, Extends}
+use Rattle.lmn_ground.specs.declared.listing.PartList.{PartList}
+use Rattle.lmn_machine.specs.Searching.{HeadInOrder, Extends, ListsNone}
 use Rattle.std.specs.Option.{option_map, is_some}
 use Rattle.lmn_store_heap.specs.Lists.{from, after}
 use Rattle.lmn_store_heap.specs.Functors.{with_functor}
@@ -78,11 +79,11 @@ told_none (Some x) b e t = let f : true ≡ not true = e ∙ ap not t in absurd 
 
 -- with other atoms, with other membranes
 abbrev pub having_atoms : {A M : Type 0} → SetRegisters A M → List A → SetRegisters A M
-having_atoms t xs = record { atoms = xs; membranes = t.membranes; parts = t.parts; integers = t.integers; copies = t.copies }
+having_atoms t xs = record { atoms = xs; membranes = t.membranes; parts = t.parts; integers = t.integers; copies = t.copies; listed = t.listed }
 
 -- registers with these membranes
 abbrev pub having_membranes : {A M : Type 0} → SetRegisters A M → List M → SetRegisters A M
-having_membranes t xs = record { atoms = t.atoms; membranes = xs; parts = t.parts; integers = t.integers; copies = t.copies }
+having_membranes t xs = record { atoms = t.atoms; membranes = xs; parts = t.parts; integers = t.integers; copies = t.copies; listed = t.listed }
 
 -- the registers after one more, and after a search that is taken back
 pub one_more : {A M : Type 0} (s t : SetRegisters A M) (a : A) (xs : List A) → t ≡ s → xs ≡ t.atoms ++ a ∷ [] → having_atoms t xs ≡ with_atom s a
@@ -97,20 +98,21 @@ one_membrane_more {A} {M} s t m xs e f =
     ap R f ∙ ap (λ u. with_membrane u m) e
 
 -- registers that were set further are taken back
-pub taken_back : {A M : Type 0} (s k r : SetRegisters A M) (n m p v : ℕ) → n ≡ length s.atoms → m ≡ length s.membranes → p ≡ length s.parts → v ≡ length s.integers → Extends s k →
-    r ≡ record { atoms = take n k.atoms; membranes = take m k.membranes; parts = take p k.parts; integers = take v k.integers; copies = k.copies } → r ≡ s
-taken_back {A} {M} s k r n m p v e f i j x t =
-    let R : List A → List M → List (A × ℕ) → List ℤ → List (PartCopy A) → SetRegisters A M = λ as' ms ps zs cs. record { atoms = as'; membranes = ms; parts = ps; integers = zs; copies = cs } in
+pub taken_back : {A M : Type 0} (s k r : SetRegisters A M) (n m p v : ℕ) → n ≡ length s.atoms → m ≡ length s.membranes → p ≡ length s.parts → v ≡ length s.integers → Extends s k → ListsNone s →
+    r ≡ record { atoms = take n k.atoms; membranes = take m k.membranes; parts = take p k.parts; integers = take v k.integers; copies = k.copies; listed = record { port = 0; atoms = [] } } → r ≡ s
+taken_back {A} {M} s k r n m p v e f i j x none t =
+    let nothing : PartList A = record { port = 0; atoms = [] } in
+    let R : List A → List M → List (A × ℕ) → List ℤ → List (PartCopy A) → SetRegisters A M = λ as' ms ps zs cs. record { atoms = as'; membranes = ms; parts = ps; integers = zs; copies = cs; listed = nothing } in
     let a : take n k.atoms ≡ s.atoms = ap (λ o. take o k.atoms) e ∙ x.atoms in
     let b : take m k.membranes ≡ s.membranes = ap (λ o. take o k.membranes) f ∙ x.membranes in
     let c : take p k.parts ≡ s.parts = ap (λ o. take o k.parts) i ∙ x.parts in
     let d : take v k.integers ≡ s.integers = ap (λ o. take o k.integers) j ∙ x.integers in
     t ∙ (ap (λ ys. R ys (take m k.membranes) (take p k.parts) (take v k.integers) k.copies) a ∙ (ap (λ ys. R s.atoms ys (take p k.parts) (take v k.integers) k.copies) b
-    ∙ (ap (λ ys. R s.atoms s.membranes ys (take v k.integers) k.copies) c ∙ (ap (λ ys. R s.atoms s.membranes s.parts ys k.copies) d ∙ ap (λ ys. R s.atoms s.membranes s.parts s.integers ys) x.copies))))
+    ∙ (ap (λ ys. R s.atoms s.membranes ys (take v k.integers) k.copies) c ∙ (ap (λ ys. R s.atoms s.membranes s.parts ys k.copies) d ∙ (ap (λ ys. R s.atoms s.membranes s.parts s.integers ys) x.copies ∙ ap (λ l. record s { listed = l }) (sym none))))))
 
 -- no register
 abbrev pub nothing_set : {A M : Type 0} → SetRegisters A M
-nothing_set = record { atoms = []; membranes = []; parts = []; integers = []; copies = [] }
+nothing_set = record { atoms = []; membranes = []; parts = []; integers = []; copies = []; listed = record { port = 0; atoms = [] } }
 
 -- what is told of the next candidate, in a heap that is the same
 pub next_same : {A : Type 0} (atom : A → ℕ) (h k : Heap) (a : A) (o : Option A) → k ≡ h →

@@ -70,6 +70,7 @@ module _ {A M : Type 0} (atom : A → ℕ) (membrane : M → ℕ) (h : Heap) whe
     membranes = t.membranes;
     parts = t.parts;
     whole = λ k x u. absurd (no_part g.parts z k x u);
+    listed = t.listed;
   }
 
   pub held_membrane : (g : SetRegisters A M) (m : M) (n : ℕ) → AreHeldWhole atom membrane h g → parent_of h (membrane m) ≡ Some n → AreHeldWhole atom membrane h (with_membrane g m)
@@ -78,6 +79,7 @@ module _ {A M : Type 0} (atom : A → ℕ) (membrane : M → ℕ) (h : Heap) whe
     membranes = λ k x u. elim (get_either g.membranes m k x u) [ inl v ↦ t.membranes k x v | inr v ↦ subst (λ y. IsMem h (membrane y)) v.1 (mem_there (h.mems (membrane m)) n e) ];
     parts = t.parts;
     whole = t.whole;
+    listed = t.listed;
   }
 
   -- what is set at last is the same behind a choice

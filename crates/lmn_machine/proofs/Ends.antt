@@ -50,6 +50,7 @@ module _ {A M : Type 0} (atom : A → ℕ) (membrane : M → ℕ) (h : Heap) whe
     membranes = t.membranes;
     parts = t.parts;
     whole = λ k x u. absurd (no_part g.parts z k x u);
+    listed = t.listed;
   }
 
   -- a port that leads to the given port of an atom is followed

@@ -56,7 +56,7 @@ module _ {A M : Type 0} (atom : A → ℕ) (membrane : M → ℕ) (h : Heap) whe
 
   -- that membrane alone is held
   pub held_one : (m : M) → IsMem h (membrane m) → AreHeldWhole atom membrane h (only_membrane m)
-  held_one m there = record { atoms = λ k a u. absurd (cc); membranes = λ k n u. at k n u; parts = λ k a u. absurd (cc); whole = λ k p u. absurd (cc) }
+  held_one m there = record { atoms = λ k a u. absurd (cc); membranes = λ k n u. at k n u; parts = λ k a u. absurd (cc); whole = λ k p u. absurd (cc); listed = λ a u. absurd (cc) }
     where
       at : (k : ℕ) (n : M) → slice_get (m ∷ []) k ≡ Some n → IsMem h (membrane n)
       at zero n u = let t : m ≡ n = cc in subst (λ x. IsMem h (membrane x)) t there

@@ -53,7 +53,7 @@ module _ {A M : Type 0} (atom : A → ℕ) (membrane : M → ℕ) (h : Heap) whe
     where
       stepped : Stepped atom membrane h g (with_integer g z) true i
       stepped = record {
-        held = record { atoms = held.atoms; membranes = held.membranes; parts = held.parts; whole = held.whole };
+        held = record { atoms = held.atoms; membranes = held.membranes; parts = held.parts; whole = held.whole; listed = held.listed };
         extends = extends_integer g z;
         holds = λ t c s n a.
             (means c s (agrees_before atom membrane h g (with_integer g z) s (extends_integer g z) a)).1 (ap (λ x. Some x) (sym (a.integers (length g.integers) z (get_last g.integers z))));

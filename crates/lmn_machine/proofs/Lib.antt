@@ -23,3 +23,4 @@ pub mod Apart
 pub mod Besides
 pub mod Costing
 pub mod Bodies
+mod Listing

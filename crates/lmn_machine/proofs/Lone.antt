@@ -189,6 +189,7 @@ module _ {A M : Type 0} (atom : A → ℕ) (membrane : M → ℕ) (h : Heap) whe
           membranes = held.membranes;
           parts = λ k x u. elim (get_either g.parts p k x u) [ inl v ↦ held.parts k x v | inr v ↦ subst (λ y. IsAtom h (atom y.0)) v.1 there ];
           whole = λ k x u. elim (get_either g.parts p k x u) [ inl v ↦ held.whole k x v | inr v ↦ subst (λ y. IsHeldPart atom h g.atoms y) v.1 (held_part sound g j a port m p from known) ];
+          listed = held.listed;
         };
         extends = extends_part g p;
         holds = λ t c s n a.

@@ -38,6 +38,22 @@ mem_own h k xs m n z e i = subst (λ (s : Heap). IsMem s n) (sym (e ∙ marked_i
 pub port_own : (h k : Heap) (xs : List ℕ) (m a i : ℕ) → Unmarked h → k ≡ own_marked m xs h → i < arity_of h a → i < arity_of k a
 port_own h k xs m a i z e l = subst (λ (n : ℕ). i < n) (sym (ap (λ (s : Heap). arity_of s a) (e ∙ marked_is h xs m z) ∙ arity_painted h (all_at xs m none) a)) l
 
+-- An atom of the marked heap is there without them, joined as in it.
+pub back_own : (h k : Heap) (xs : List ℕ) (m a : ℕ) → Unmarked h → k ≡ own_marked m xs h → IsAtom k a → IsAtom h a × (partners_of (h.atoms a) ≡ partners_of (k.atoms a))
+back_own h k xs m a z e i =
+    let is = e ∙ marked_is h xs m z in
+    (there (all_at xs m none a) (h.atoms a) (subst (λ (s : Heap). IsAtom s a) is i), sym (ap (λ (s : Heap). partners_of (s.atoms a)) is ∙ joined (all_at xs m none a) (h.atoms a)))
+  where
+    there : (w : ℕ) (o : Option HeapAtom) → IsSome (paint_at own_place w o) → IsSome o
+    there zero o i = i
+    there (suc w) None i = i
+    there (suc w) (Some x) i = refl
+
+    joined : (w : ℕ) (o : Option HeapAtom) → partners_of (paint_at own_place w o) ≡ partners_of o
+    joined zero o = refl
+    joined (suc w) None = refl
+    joined (suc w) (Some x) = refl
+
 -- and the marks of ports
 pub clean_own_all : (h k : Heap) (xs : List ℕ) (m : ℕ) → Unmarked h → k ≡ own_marked m xs h → PortsUnmarked k
 clean_own_all h k xs m z e = subst (λ (s : Heap). PortsUnmarked s) (sym (e ∙ marked_is h xs m z)) (λ a i l.

@@ -92,7 +92,7 @@ with_membrane g m = record g { membranes = g.membranes ++ m ∷ [] }
 
 -- one membrane register
 abbrev pub only_membrane : {A M : Type 0} → M → SetRegisters A M
-only_membrane m = record { atoms = []; membranes = m ∷ []; parts = []; integers = []; copies = [] }
+only_membrane m = record { atoms = []; membranes = m ∷ []; parts = []; integers = []; copies = []; listed = record { port = 0; atoms = [] } }
 
 -- Registers that have the values of those that are set and rest on these choices alone.
 pub record AgreesOn {A M : Type 0} (atom : A → ℕ) (membrane : M → ℕ) (r : Reasons) (e : Choices) (g : SetRegisters A M) (s : HeadRegisters) : Type 0 where

@@ -9,6 +9,7 @@ use Rattle.lmn_instr_code.specs.declared.instr.Instr.TheVariants.{FindAtom, Dere
 use Rattle.lmn_instr_code.specs.Running.{HeadRegisters, HeadSize, InstructionHolds, AllHold, Succeeds, IsFirstSuccess, atoms_set, membranes_set, choices}
 use Rattle.lmn_solid_heads.specs.Embeddings.{ListNotAfter}
 use Rattle.lmn_solid_heads.specs.Guards.{IsUnaryPart}
+use Rattle.lmn_ground.specs.Listed.{IsListed}
 use Rattle.lmn_machine_registers.specs.Agreeing.{Agrees}
 use Rattle.lmn_machine_registers.specs.declared.registers.SetRegisters.{SetRegisters}
 use Rattle.lmn_machine_registers.specs.declared.stack.TheConstants.{ROOM}
@@ -26,12 +27,18 @@ pub record IsHeldPart {A : Type 0} (atom : A → ℕ) (h : Heap) (handles : List
   pub whole : (m : ℕ) × StandsWhole (atom_map h) (port_id atom p) m
   pub apart : (b : ℕ) → Reached (atom_map h) (port_id atom p) b → AreApart atom handles b
 
--- the handles in the registers are of atoms, of membranes and of the roots of parts that stand whole
+-- The handles in the registers are of atoms, of membranes and of the roots of parts that stand whole, and the part that is listed is
+-- there.
 pub record AreHeldWhole {A M : Type 0} (atom : A → ℕ) (membrane : M → ℕ) (h : Heap) (g : SetRegisters A M) : Type 0 where
   pub atoms : AreAtomHandles atom h g.atoms
   pub membranes : AreMembraneHandles membrane h g.membranes
   pub parts : AreRootHandles atom h g.parts
   pub whole : (k : ℕ) (p : A × ℕ) → slice_get g.parts k ≡ Some p → IsHeldPart atom h g.atoms p
+  pub listed : IsListed atom h g.listed
+
+-- no part is listed
+abbrev pub ListsNone : {A M : Type 0} → SetRegisters A M → Type 0
+ListsNone g = g.listed ≡ record { port = 0; atoms = [] }
 
 -- more registers are set, and the earlier ones are as they were
 pub record Extends {A M : Type 0} (g k : SetRegisters A M) : Type 0 where

@@ -3,7 +3,7 @@ ghost use Rattle.std.specs.Prelude.{◌≡◌, ◌≤◌, ◌<◌, ◌+◌, ℕ,
 ghost use Rattle.lmn_store_heap.specs.Sound.{Valid};
 ghost use Rattle.lmn_store_heap.specs.Heap.{Unmarked, functor_of, parent_of};
 ghost use Rattle.lmn_instr_code.specs.declared.instr.Instr.TheVariants.{FindAtom, AnyMem};
-ghost use Rattle.lmn_machine.specs.Searching.{AreHeldWhole, HeadInOrder};
+ghost use Rattle.lmn_machine.specs.Searching.{AreHeldWhole, HeadInOrder, ListsNone};
 ghost use Rattle.lmn_machine.specs.Outcomes.{ChoosesAtoms, ChoosesMembranes};
 ghost use Rattle.lmn_machine.specs.Jumping.{AllRestWell, Ended, HangsBy, Tried, with_atom, with_membrane};
 
@@ -43,10 +43,14 @@ pub fn search<S: LinkStore>(
         match steps::step(store, set, instr, trail) {
             Outcome::Holds => {}
             Outcome::Fails => return Err(reasons.read_by(instr)),
-            Outcome::ChoosesAtom => return choose_atom(store, code, reasons, i, instr, set, trail),
-            Outcome::ChoosesMembrane => return choose_membrane(
-                store, code, reasons, i, instr, set, trail,
-            ),
+            Outcome::ChoosesAtom => {
+                set.listed.forget();
+                return choose_atom(store, code, reasons, i, instr, set, trail);
+            }
+            Outcome::ChoosesMembrane => {
+                set.listed.forget();
+                return choose_membrane(store, code, reasons, i, instr, set, trail);
+            }
         }
     }
     Ok(())
@@ -70,6 +74,7 @@ fn choose_atom<S: LinkStore>(
     requires choice { ChoosesAtoms instr.now }
     requires order { HeadInOrder (length set.old.atoms) (length set.old.membranes) (length set.old.parts) (length set.old.integers) (drop at code.now) }
     requires rest { AllRestWell reasons.now code.now }
+    requires unlisted { ListsNone set.old }
     ensures same { S.heap store.new ≡ S.heap store.old }
     ensures ended { Ended S.atom_id S.mem_id (S.heap store.old) reasons.now set.old set.new result (drop at code.now) }
 {
@@ -107,6 +112,7 @@ fn choose_membrane<S: LinkStore>(
     requires choice { ChoosesMembranes instr.now }
     requires order { HeadInOrder (length set.old.atoms) (length set.old.membranes) (length set.old.parts) (length set.old.integers) (drop at code.now) }
     requires rest { AllRestWell reasons.now code.now }
+    requires unlisted { ListsNone set.old }
     ensures same { S.heap store.new ≡ S.heap store.old }
     ensures ended { Ended S.atom_id S.mem_id (S.heap store.old) reasons.now set.old set.new result (drop at code.now) }
 {
@@ -146,6 +152,7 @@ fn search_atoms<S: LinkStore>(
     requires place { slice_get set.old.membranes inside ≡ Some place }
     requires order { HeadInOrder (length set.old.atoms) (length set.old.membranes) (length set.old.parts) (length set.old.integers) (drop at code.now) }
     requires rest { AllRestWell reasons.now code.now }
+    requires unlisted { ListsNone set.old }
     ensures same { S.heap store.new ≡ S.heap store.old }
     ensures ended { Ended S.atom_id S.mem_id (S.heap store.old) reasons.now set.old set.new result (drop at code.now) }
 {
@@ -184,6 +191,7 @@ fn try_atom<S: LinkStore>(
     requires at { (y : ℕ) × (f : Functor) × (slice_get code.now at ≡ Some (FindAtom (length set.old.atoms) y f)) × (functor_of (S.heap store.old) (S.atom_id atom) ≡ Some f) }
     requires order { HeadInOrder (length set.old.atoms) (length set.old.membranes) (length set.old.parts) (length set.old.integers) (drop at code.now) }
     requires rest { AllRestWell reasons.now code.now }
+    requires unlisted { ListsNone set.old }
     ensures same { S.heap store.new ≡ S.heap store.old }
     ensures tried { Tried S.atom_id S.mem_id (S.heap store.old) reasons.now set.old (with_atom set.old atom) set.new result (drop (at + 1) code.now) }
 {
@@ -226,6 +234,7 @@ fn search_home<S: LinkStore>(
     requires hangs { HangsBy code.now (at + 1) (length set.old.membranes) port }
     requires order { HeadInOrder (length set.old.atoms) (length set.old.membranes) (length set.old.parts) (length set.old.integers) (drop at code.now) }
     requires rest { AllRestWell reasons.now code.now }
+    requires unlisted { ListsNone set.old }
     ensures same { S.heap store.new ≡ S.heap store.old }
     ensures ended { Ended S.atom_id S.mem_id (S.heap store.old) reasons.now set.old set.new result (drop at code.now) }
 {
@@ -259,6 +268,7 @@ fn try_membranes<S: LinkStore>(
     requires place { slice_get set.old.membranes inside ≡ Some place }
     requires order { HeadInOrder (length set.old.atoms) (length set.old.membranes) (length set.old.parts) (length set.old.integers) (drop at code.now) }
     requires rest { AllRestWell reasons.now code.now }
+    requires unlisted { ListsNone set.old }
     ensures same { S.heap store.new ≡ S.heap store.old }
     ensures ended { Ended S.atom_id S.mem_id (S.heap store.old) reasons.now set.old set.new result (drop at code.now) }
 {
@@ -297,6 +307,7 @@ fn try_membrane<S: LinkStore>(
     requires at { (y : ℕ) × (n : ℕ) × (slice_get code.now at ≡ Some (AnyMem (length set.old.membranes) y)) × (parent_of (S.heap store.old) (S.mem_id membrane) ≡ Some n) }
     requires order { HeadInOrder (length set.old.atoms) (length set.old.membranes) (length set.old.parts) (length set.old.integers) (drop at code.now) }
     requires rest { AllRestWell reasons.now code.now }
+    requires unlisted { ListsNone set.old }
     ensures same { S.heap store.new ≡ S.heap store.old }
     ensures tried { Tried S.atom_id S.mem_id (S.heap store.old) reasons.now set.old (with_membrane set.old membrane) set.new result (drop (at + 1) code.now) }
 {

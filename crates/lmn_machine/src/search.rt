@@ -2,7 +2,7 @@ ghost use Rattle.std.specs.Prelude.{◌≡◌, ◌≤◌, ◌+◌, ℕ, length, 
 ghost use Rattle.lmn_store_heap.specs.Lists.{from};
 ghost use Rattle.lmn_store_heap.specs.Sound.{Valid};
 ghost use Rattle.lmn_instr_code.specs.declared.instr.Instr.TheVariants.{FindAtom, AnyMem};
-ghost use Rattle.lmn_machine.specs.Searching.{AreHeldWhole, HeadInOrder};
+ghost use Rattle.lmn_machine.specs.Searching.{AreHeldWhole, HeadInOrder, ListsNone};
 ghost use Rattle.lmn_machine.specs.Jumping.{Lasted};
 ghost use Rattle.lmn_machine.specs.Outcomes.{ChoosesAtoms, ChoosesMembranes};
 ghost use Rattle.lmn_machine.specs.Asking.{HoldsUpTo, IsGuest};
@@ -36,6 +36,7 @@ pub fn begin<S: LinkStore>(
     requires held { AreHeldWhole S.atom_id S.mem_id (S.heap store.old) set.old }
     requires at { at ≤ length code.now }
     requires order { HeadInOrder (length set.old.atoms) (length set.old.membranes) (length set.old.parts) (length set.old.integers) (drop at code.now) }
+    requires unlisted { ListsNone set.old }
     ensures same { S.heap store.new ≡ S.heap store.old }
     ensures searched { Lasted patience.new.left S.atom_id S.mem_id (S.heap store.old) set.old set.new result (drop at code.now) }
 {
@@ -76,12 +77,14 @@ fn search<S: LinkStore>(
         match steps::step(store, set, instr, trail) {
             Outcome::Holds => {}
             Outcome::Fails => return false,
-            Outcome::ChoosesAtom => return choose_atom_apart(
-                store, code, i, instr, set, patience, trail,
-            ),
-            Outcome::ChoosesMembrane => return choose_membrane_apart(
-                store, code, i, instr, set, patience, trail,
-            ),
+            Outcome::ChoosesAtom => {
+                set.listed.forget();
+                return choose_atom_apart(store, code, i, instr, set, patience, trail);
+            }
+            Outcome::ChoosesMembrane => {
+                set.listed.forget();
+                return choose_membrane_apart(store, code, i, instr, set, patience, trail);
+            }
         }
     }
     true
@@ -127,6 +130,7 @@ fn choose_atom_apart<S: LinkStore>(
     requires at { slice_get code.now at ≡ Some instr.now }
     requires choice { ChoosesAtoms instr.now }
     requires order { HeadInOrder (length set.old.atoms) (length set.old.membranes) (length set.old.parts) (length set.old.integers) (drop at code.now) }
+    requires unlisted { ListsNone set.old }
     ensures same { S.heap store.new ≡ S.heap store.old }
     ensures searched { Lasted patience.new.left S.atom_id S.mem_id (S.heap store.old) set.old set.new result (drop at code.now) }
 {
@@ -151,6 +155,7 @@ fn choose_membrane_apart<S: LinkStore>(
     requires at { slice_get code.now at ≡ Some instr.now }
     requires choice { ChoosesMembranes instr.now }
     requires order { HeadInOrder (length set.old.atoms) (length set.old.membranes) (length set.old.parts) (length set.old.integers) (drop at code.now) }
+    requires unlisted { ListsNone set.old }
     ensures same { S.heap store.new ≡ S.heap store.old }
     ensures searched { Lasted patience.new.left S.atom_id S.mem_id (S.heap store.old) set.old set.new result (drop at code.now) }
 {
@@ -176,6 +181,7 @@ fn choose_atom<S: LinkStore>(
     requires at { slice_get code.now at ≡ Some instr.now }
     requires choice { ChoosesAtoms instr.now }
     requires order { HeadInOrder (length set.old.atoms) (length set.old.membranes) (length set.old.parts) (length set.old.integers) (drop at code.now) }
+    requires unlisted { ListsNone set.old }
     ensures same { S.heap store.new ≡ S.heap store.old }
     ensures searched { Lasted patience.new.left S.atom_id S.mem_id (S.heap store.old) set.old set.new result (drop at code.now) }
 {
@@ -215,6 +221,7 @@ fn choose_membrane<S: LinkStore>(
     requires at { slice_get code.now at ≡ Some instr.now }
     requires choice { ChoosesMembranes instr.now }
     requires order { HeadInOrder (length set.old.atoms) (length set.old.membranes) (length set.old.parts) (length set.old.integers) (drop at code.now) }
+    requires unlisted { ListsNone set.old }
     ensures same { S.heap store.new ≡ S.heap store.old }
     ensures searched { Lasted patience.new.left S.atom_id S.mem_id (S.heap store.old) set.old set.new result (drop at code.now) }
 {
@@ -256,6 +263,7 @@ fn search_atoms<S: LinkStore>(
     requires home { home_of (S.heap store.old) (S.atom_id first) ≡ Some (S.mem_id place) }
     requires list { let all = with_functor (S.heap store.old) functor (atoms_in (S.heap store.old) (S.mem_id place)) in from (Some (S.atom_id first)) all ≡ all }
     requires order { HeadInOrder (length set.old.atoms) (length set.old.membranes) (length set.old.parts) (length set.old.integers) (drop at code.now) }
+    requires unlisted { ListsNone set.old }
     ensures same { S.heap store.new ≡ S.heap store.old }
     ensures searched { Lasted patience.new.left S.atom_id S.mem_id (S.heap store.old) set.old set.new result (drop at code.now) }
 {
@@ -314,6 +322,7 @@ fn search_home<S: LinkStore>(
     requires there { IsAtom (S.heap store.old) (S.atom_id guest) }
     requires guest { IsGuest S.atom_id S.mem_id (S.heap store.old) set.old (drop (at + 1) code.now) (length set.old.membranes) (S.atom_id guest) }
     requires order { HeadInOrder (length set.old.atoms) (length set.old.membranes) (length set.old.parts) (length set.old.integers) (drop at code.now) }
+    requires unlisted { ListsNone set.old }
     ensures same { S.heap store.new ≡ S.heap store.old }
     ensures searched { Lasted patience.new.left S.atom_id S.mem_id (S.heap store.old) set.old set.new result (drop at code.now) }
 {
@@ -350,6 +359,7 @@ fn search_membranes<S: LinkStore>(
     requires held { AreHeldWhole S.atom_id S.mem_id (S.heap store.old) set.old }
     requires at { (y : ℕ) × (slice_get code.now at ≡ Some (AnyMem (length set.old.membranes) y)) × (slice_get set.old.membranes y ≡ Some place) }
     requires order { HeadInOrder (length set.old.atoms) (length set.old.membranes) (length set.old.parts) (length set.old.integers) (drop at code.now) }
+    requires unlisted { ListsNone set.old }
     ensures same { S.heap store.new ≡ S.heap store.old }
     ensures searched { Lasted patience.new.left S.atom_id S.mem_id (S.heap store.old) set.old set.new result (drop at code.now) }
 {

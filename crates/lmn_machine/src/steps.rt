@@ -304,7 +304,7 @@ fn find_part<S: LinkStore>(
         Instr::IsGround { port, membrane, .. } => {
             let from = set.atoms.at(port.atom as usize);
             let place = set.membranes.at(*membrane as usize);
-            let root = whole::whole_end(store, from, port.port, place, &set.atoms, trail);
+            let root = whole::whole_end(store, from, port.port, place, &set.atoms, &mut set.listed);
             outcome_of(set_part(set, root))
         }
         _ => Outcome::Fails,

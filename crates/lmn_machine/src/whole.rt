@@ -3,13 +3,14 @@ ghost use Rattle.std.specs.Prelude.{◌≡◌, ◌<◌, ◌↔◌, ◌^◌, List
 ghost use Rattle.lmn_store_heap.specs.Heap.{IsAtom, IsMem, arity_of, Unmarked};
 ghost use Rattle.lmn_base.specs.Graphs.{SameGraph};
 ghost use Rattle.lmn_store_heap.specs.Graphs.{atom_map};
+ghost use Rattle.lmn_ground.specs.Listed.{IsListed};
 ghost use Rattle.lmn_ground.specs.Rests.{own_marked};
 ghost use Rattle.lmn_machine.specs.Searching.{IsHeldPart, IsWholeApart};
 ghost use Rattle.lmn_machine.specs.Outcomes.{IsEndWith};
 ghost use Rattle.lmn_machine_commit.specs.Registers.{AreAtomHandles};
 
 use crate::checks;
-use lmn_ground::{Found, MATCHED, equal, is_ground};
+use lmn_ground::{Found, MATCHED, PartList, equal, is_ground};
 use lmn_machine_commit::set_own;
 use lmn_machine_registers::Stack;
 use lmn_store_trait::LinkStore;
@@ -32,42 +33,45 @@ fn is_whole<S: LinkStore>(
     root: (S::Atom, u8),
     m: S::Mem,
     atoms: &Stack<S::Atom>,
-    trail: &mut Found<S::Atom>,
+    list: &mut PartList<S::Atom>,
 ) -> bool
     requires unmarked { Unmarked (S.heap store.old) }
     requires atom { IsAtom (S.heap store.old) (S.atom_id root.0) }
     requires port { root.1 < arity_of (S.heap store.old) (S.atom_id root.0) }
     requires membrane { IsMem (S.heap store.old) (S.mem_id m) }
     requires held { AreAtomHandles S.atom_id (S.heap store.old) atoms.now }
+    ensures listed { IsListed S.atom_id (S.heap store.old) list.new }
     ensures whole { IsTrue result ↔ IsWholeApart S.atom_id (S.heap store.old) atoms.now (S.mem_id m) (S.atom_id root.0, root.1) }
     ensures same { S.heap store.new ≡ S.heap store.old }
 {
     let _root = store.root();
     mark_all(store, atoms, MATCHED);
-    let whole = is_ground(store, root, m, trail);
+    let whole = is_ground(store, root, m, list);
     mark_all(store, atoms, 0);
     whole
 }
 
-/// The other end of a port, where the part entered there stands whole and apart.
+/// The other end of a port, where the part entered there stands whole and apart. Its atoms are listed then, as far as there is room for all.
 pub fn whole_end<S: LinkStore>(
     store: &mut S,
     from: S::Atom,
     port: u8,
     m: S::Mem,
     atoms: &Stack<S::Atom>,
-    trail: &mut Found<S::Atom>,
+    list: &mut PartList<S::Atom>,
 ) -> Option<(S::Atom, u8)>
     requires unmarked { Unmarked (S.heap store.old) }
     requires atom { IsAtom (S.heap store.old) (S.atom_id from) }
     requires membrane { IsMem (S.heap store.old) (S.mem_id m) }
     requires held { AreAtomHandles S.atom_id (S.heap store.old) atoms.now }
+    requires listed { IsListed S.atom_id (S.heap store.old) list.old }
     ensures same { S.heap store.new ≡ S.heap store.old }
+    ensures listed { IsListed S.atom_id (S.heap store.old) list.new }
     ensures end { IsEndWith S.atom_id (S.heap store.old) (IsWholeApart S.atom_id (S.heap store.old) atoms.now (S.mem_id m)) (S.atom_id from) port result }
 {
     match checks::end(store, from, port) {
         Some(root) => {
-            if is_whole(store, root, m, atoms, trail) {
+            if is_whole(store, root, m, atoms, list) {
                 Some(root)
             } else {
                 None

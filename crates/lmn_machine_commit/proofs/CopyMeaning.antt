@@ -9,7 +9,7 @@ use Rattle.lmn_machine_commit.specs.Preparing.{CopyIsMade}
 
 -- an instruction that copies a part has made it
 pub copy_is_made : {A M : Type 0} (atom : A → ℕ) (s s1 t : Heap) (g k : SetRegisters A M) (root : ℕ × ℕ) (copy : A × ℕ) (n : ℕ) → s1 ≡ s → ((xs : List ℕ) → AreAtoms s root xs → n ≡ length xs) →
-    Copied s1 t root (port_id atom copy) → k ≡ record g { copies = g.copies ++ (record { root = copy; atoms = n }) ∷ [] } → CopyIsMade {A = A} {M = M} atom s t g k root
+    Copied s1 t root (port_id atom copy) → k ≡ record g { copies = g.copies ++ (record { root = copy; atoms = n }) ∷ []; listed = k.listed } → CopyIsMade {A = A} {M = M} atom s t g k root
 copy_is_made atom s s1 t g k root copy n e size copied is =
     let w : Copied s t root (port_id atom copy) = subst (λ z. Copied z t root (port_id atom copy)) e copied in
     (record { root = copy; atoms = n }, w, w.long ∙ sym (size w.atoms (part_atoms s root w.atoms w.part)), is)

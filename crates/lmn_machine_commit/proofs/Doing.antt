@@ -13,7 +13,7 @@ use Rattle.lmn_solid_bodies.specs.Conditions.{Can}
 use Rattle.lmn_machine_registers.specs.declared.registers.PartCopy.{PartCopy}
 use Rattle.lmn_machine_registers.specs.declared.registers.SetRegisters.{SetRegisters}
 use Rattle.lmn_machine_commit.specs.Registers.{AgreesWithCopies}
-use Rattle.lmn_machine_commit.specs.Committing.{Runs, Stands}
+use Rattle.lmn_machine_commit.specs.Committing.{IsDoneSoFar, Runs, Stands}
 use Rattle.lmn_machine_commit.specs.Preparing.{Uses}
 use Rattle.lmn_ground_parts.specs.Rests.{CopyWaits, IsContent, rest_placed, rest_taken}
 use Rattle.lmn_ground_parts.specs.Walks.{IsPartInDepth}
@@ -114,18 +114,15 @@ module _ {A M : Type 0} (atom : A → ℕ) (membrane : M → ℕ) (g : SetRegist
       let w : Can r (DropCells x) s = subst (λ j. Can r j s) e can in
       subst (λ j. Does r j s t) (sym e) (w.1, taken (r.left_atoms x) (r.left_membranes x) (subst (λ k. IsContent s k (r.left_atoms x) (r.left_membranes x)) (u.membranes x m at) w.1))
 
-  -- what is done of code, from the heap s0 to the heap s: the rest can be run, and makes of s what the whole makes of s0
-  abbrev pub Done : List Instr → List Instr → Heap → Heap → Type 0
-  Done whole rest s0 s = (r : Registers) → AgreesWithCopies atom membrane g r → Runs r whole s0 → Runs r rest s × ((t : Heap) → DoesAll r rest s t → DoesAll r whole s0 t)
-
-  pub done_more : (whole rest is : List Instr) (i : Instr) (s0 s t : Heap) → rest ≡ i ∷ is → Done whole rest s0 s → ((r : Registers) → AgreesWithCopies atom membrane g r → Can r i s → Does r i s t) → Done whole is s0 t
+  -- one instruction more is done
+  pub done_more : (whole rest is : List Instr) (i : Instr) (s0 s t : Heap) → rest ≡ i ∷ is → IsDoneSoFar atom membrane g whole rest s0 s → ((r : Registers) → AgreesWithCopies atom membrane g r → Can r i s → Does r i s t) → IsDoneSoFar atom membrane g whole is s0 t
   done_more whole rest is i s0 s t e d does r u w =
       let q = d r u w in
       let runs : Runs r (i ∷ is) s = subst (λ js. Runs r js s) e q.0 in
       let step = does r u runs.0 in
       (runs.2 t step, λ v c. q.1 v (subst (λ js. DoesAll r js s v) (sym e) (t, step, c)))
 
-  pub can_now : (whole rest is : List Instr) (i : Instr) (s0 s : Heap) → rest ≡ i ∷ is → Done whole rest s0 s → (w : (r : Registers) × AgreesWithCopies atom membrane g r × Runs r whole s0) →
+  pub can_now : (whole rest is : List Instr) (i : Instr) (s0 s : Heap) → rest ≡ i ∷ is → IsDoneSoFar atom membrane g whole rest s0 s → (w : (r : Registers) × AgreesWithCopies atom membrane g r × Runs r whole s0) →
       (r : Registers) × AgreesWithCopies atom membrane g r × Can r i s × Stands r i s
   can_now whole rest is i s0 s e d w =
       let q : Runs w.0 (i ∷ is) s = subst (λ js. Runs w.0 js s) e (d w.0 w.1 w.2).0 in

@@ -16,7 +16,10 @@ use Rattle.lmn_machine_commit.specs.Registers.{AgreesWithCopies, AreHeld, AreSiz
 use Rattle.lmn_machine_commit.specs.Preparing.{Uses, AllUse, UsesInOrder, BodyInOrder, needed, needed_by, atoms_made, membranes_made, copies_made, CopyIsMade, OnlyMakes, RestIsMade, RoomIsMade, IsMade, Prepared, CanCopy, HoldsCopied, AtomIsMade, MembraneIsMade}
 use Rattle.lmn_machine_commit.proofs.RestOf.{rest_beside}
 use Rattle.lmn_machine_commit.proofs.Codes.{get_either, all_use_more, use_one_more, reads_uses, needed_more}
-use Rattle.lmn_machine_commit.proofs.Waiting.{makes_nothing, makes_on, still_copied, none_there}
+use Rattle.lmn_ground.specs.Listed.{IsListed}
+use Rattle.lmn_ground.proofs.ListedLaws.{listed_kept}
+use Rattle.lmn_machine_commit.proofs.Listing.{listed_made}
+use Rattle.lmn_machine_commit.proofs.Waiting.{makes_atom, makes_nothing, makes_on, still_copied, none_there}
 use Rattle.lmn_base.proofs.Lists.{get_front, get_last, plus_nothing as nothing_more}
 use Rattle.std.proofs.lemmas.List.{length_push, length-map, length-replicate}
 use Rattle.std.proofs.lemmas.Option.{same_Some}
@@ -176,6 +179,7 @@ module _ {A M : Type 0} (atom : A → ℕ) (membrane : M → ℕ) where
       ];
       membranes = held.membranes;
       parts = λ n p e. some_altered s.atoms (atom new_one) (atom p.0) (new_atom f) (held.parts n p e);
+      listed = listed_made atom g.listed s (made_atom s (atom new_one) f) (makes_atom s (made_atom s (atom new_one) f) (atom new_one) f made.1 refl) held.listed;
     }
 
     in_next : slice_get k.atoms (length g.atoms) ≡ Some new_one
@@ -234,6 +238,7 @@ module _ {A M : Type 0} (atom : A → ℕ) (membrane : M → ℕ) where
         | inr w ↦ subst (λ y. IsMem (made_mem s (membrane new_handle)) (membrane y)) w (rw (alter_at s.mems (membrane new_handle) (λ _. Some new_mem)) refl)
       ];
       parts = held.parts;
+      listed = listed_kept atom s g.listed (made_mem s (membrane new_handle)) (λ a i. refl) held.listed;
     }
 
     same_rules : (x : ℕ) → rules_in (made_mem s (membrane new_handle)) x ≡ rules_in s x
@@ -288,7 +293,7 @@ module _ {A M : Type 0} (atom : A → ℕ) (membrane : M → ℕ) where
         ((r : Registers) → AgreesWithCopies atom membrane g r → (x : ℕ) → x ≢ y → needed_by r (rules_in s) i x ≡ 0) → IsMade atom membrane s t g g before i
     room_made none none_too no_copy makes away = record {
       grows = grows_none g;
-      held = subst (λ u. AreHeld atom membrane u g) (sym made.0) (record { atoms = held.atoms; membranes = λ k m e. some_changed s.mems y (membrane m) (mem_with_spare room_now) (held.membranes k m e); parts = held.parts });
+      held = subst (λ u. AreHeld atom membrane u g) (sym made.0) (record { atoms = held.atoms; membranes = λ k m e. some_changed s.mems y (membrane m) (mem_with_spare room_now) (held.membranes k m e); parts = held.parts; listed = listed_kept atom s g.listed (reserved s y room_now) (λ a i. refl) held.listed });
       atoms = (let z : length g.atoms ≡ length g.atoms + 0 = omega arith in z) ∙ ap (λ k. length g.atoms + k) (sym none);
       membranes = (let z : length g.membranes ≡ length g.membranes + 0 = omega arith in z) ∙ ap (λ k. length g.membranes + k) (sym none_too);
       copies = (let z : length g.copies ≡ length g.copies + 0 = omega arith in z) ∙ ap (λ k. length g.copies + k) (sym no_copy);
@@ -328,8 +333,8 @@ module _ {A M : Type 0} (atom : A → ℕ) (membrane : M → ℕ) where
 
   -- A copy is made.
   pub copy_made : (s t : Heap) (g k : SetRegisters A M) (before : List Instr) (i : Instr) (x y z : ℕ) (p : A × ℕ) → AreHeld atom membrane s g → i ≡ CopyGround x y z → slice_get g.parts z ≡ Some p →
-      CopyIsMade {A = A} {M = M} atom s t g k (port_id atom p) → (v c : ℕ) → c ≡ length g.copies → UsesInOrder (length g.atoms) (length g.membranes) (length g.parts) v c i → IsMade atom membrane s t g k before i
-  copy_made s t g k before i x y z p held e at made v c is_c reads =
+      CopyIsMade {A = A} {M = M} atom s t g k (port_id atom p) → IsListed atom t k.listed → (v c : ℕ) → c ≡ length g.copies → UsesInOrder (length g.atoms) (length g.membranes) (length g.parts) v c i → IsMade atom membrane s t g k before i
+  copy_made s t g k before i x y z p held e at made listed v c is_c reads =
       let u : UsesInOrder (length g.atoms) (length g.membranes) (length g.parts) v c (CopyGround x y z) = subst (λ j. UsesInOrder (length g.atoms) (length g.membranes) (length g.parts) v c j) e reads in
       let next : x ≡ length g.copies = u.0.0 ∙ is_c in
       let beside = made.1.beside in
@@ -343,6 +348,7 @@ module _ {A M : Type 0} (atom : A → ℕ) (membrane : M → ℕ) where
           atoms = λ n a q. kept (atom a) (held.atoms n a q);
           membranes = λ n m q. subst (λ (o : Option HeapMem). IsSome o) (sym (same_mems (membrane m))) (held.membranes n m q);
           parts = λ n q w. kept (atom q.0) (held.parts n q w);
+          listed = listed;
         });
         atoms = ap (λ (l : SetRegisters A M). length l.atoms) made.3 ∙ (let w : length g.atoms ≡ length g.atoms + 0 = omega arith in w) ∙ ap (λ n. length g.atoms + n) (sym (ap atoms_made e));
         membranes = ap (λ (l : SetRegisters A M). length l.membranes) made.3 ∙ (let w : length g.membranes ≡ length g.membranes + 0 = omega arith in w) ∙ ap (λ n. length g.membranes + n) (sym (ap membranes_made e));
@@ -367,7 +373,7 @@ module _ {A M : Type 0} (atom : A → ℕ) (membrane : M → ℕ) where
       let kept : (a : ℕ) → IsAtom s a → IsAtom t a = λ a w. subst (λ (o : Option HeapAtom). IsSome o) (sym (makes.kept a w)) w in
       record {
         grows = grows_none g;
-        held = record { atoms = λ n a q. kept (atom a) (held.atoms n a q); membranes = λ n m q. made.there (membrane m) (held.membranes n m q); parts = λ n q w. kept (atom q.0) (held.parts n q w) };
+        held = record { atoms = λ n a q. kept (atom a) (held.atoms n a q); membranes = λ n m q. made.there (membrane m) (held.membranes n m q); parts = λ n q w. kept (atom q.0) (held.parts n q w); listed = listed_made atom g.listed s t makes held.listed };
         atoms = (let z : length g.atoms ≡ length g.atoms + 0 = omega arith in z) ∙ ap (λ k. length g.atoms + k) (sym (ap atoms_made e));
         membranes = (let z : length g.membranes ≡ length g.membranes + 0 = omega arith in z) ∙ ap (λ k. length g.membranes + k) (sym (ap membranes_made e));
         copies = (let z : length g.copies ≡ length g.copies + 0 = omega arith in z) ∙ ap (λ k. length g.copies + k) (sym (ap copies_made e));

@@ -13,6 +13,7 @@ use Rattle.lmn_instr_pool.specs.Extents.{NoneFrom, Removes}
 use Rattle.lmn_solid_bodies.specs.Running.{Registers}
 use Rattle.lmn_machine_registers.specs.declared.registers.SetRegisters.{SetRegisters}
 use Rattle.lmn_schedule_sleep.proofs.Marks.{ReadAlike, read_alike, homes, links}
+use Rattle.lmn_ground.proofs.ListedLaws.{listed_kept}
 use Rattle.lmn_machine_commit.specs.Registers.{AgreesWithCopies, AreHeld}
 use Rattle.lmn_machine_commit.specs.Waking.{WakesAbove, Is, IsHome, IsPartnerHome, IsHomeBeside, Rouses, SomeRouses, IsRoused}
 use Rattle.lmn_machine_commit.proofs.Rousing.{wakes_as, wakes_on, wakes_none}
@@ -209,4 +210,5 @@ module _ {A M : Type 0} (atom : A → ℕ) (membrane : M → ℕ) (set : SetRegi
     atoms = λ n a e. atom_alike h k same (atom a) (held.atoms n a e);
     membranes = λ n m e. same.stays (membrane m) (held.membranes n m e);
     parts = λ n p e. atom_alike h k same (atom p.0) (held.parts n p e);
+    listed = listed_kept atom h set.listed k (λ a i. same.atoms a) held.listed;
   }

@@ -1,11 +1,13 @@
 -- When the code of a body can be committed.
-use Rattle.std.specs.Prelude.{List, [], ◌∷◌, None}
+use Rattle.std.specs.Prelude.{ℕ, List, [], ◌∷◌, None}
 use Rattle.lmn_store_heap.specs.Heap.{Heap}
 use Rattle.lmn_ground.specs.Spread.{IsWhole}
 use Rattle.lmn_instr_code.specs.declared.instr.Instr.{Instr}
 use Rattle.lmn_instr_code.specs.declared.instr.Instr.TheVariants.{RemovePart}
-use Rattle.lmn_solid_bodies.specs.Running.{Registers, Does}
+use Rattle.lmn_solid_bodies.specs.Running.{Registers, Does, DoesAll}
 use Rattle.lmn_solid_bodies.specs.Conditions.{Can, StandsAsPort}
+use Rattle.lmn_machine_registers.specs.declared.registers.SetRegisters.{SetRegisters}
+use Rattle.lmn_machine_commit.specs.Registers.{AgreesWithCopies}
 
 -- a part that is taken is there, and each of its ports but the root is joined
 abbrev pub Stands : Registers → Instr → Heap → Type 0
@@ -16,3 +18,8 @@ Stands r _ s = Unit {0}
 abbrev pub Runs : Registers → List Instr → Heap → Type 0
 Runs r [] s = Unit {0}
 Runs r (i ∷ is) s = Can r i s × Stands r i s × ((t : Heap) → Does r i s t → Runs r is t)
+
+-- What is done of code, from the heap s to the heap t: what is left can be run, and makes of t what the whole makes of s.
+abbrev pub IsDoneSoFar : {A M : Type 0} → (A → ℕ) → (M → ℕ) → SetRegisters A M → (whole rest : List Instr) → (s t : Heap) → Type 0
+IsDoneSoFar atom membrane g whole rest s t =
+    (r : Registers) → AgreesWithCopies atom membrane g r → Runs r whole s → Runs r rest t × ((u : Heap) → DoesAll r rest t u → DoesAll r whole s u)

@@ -8,7 +8,6 @@ use Rattle.lmn_store_heap.specs.Conditions.{Alone}
 use Rattle.lmn_ground.specs.Spread.{IsWhole}
 use Rattle.lmn_ground_parts.specs.Copies.{Copied, LeadsOut}
 use Rattle.lmn_ground_parts.specs.Rests.{NoneLeaves, RestCopied}
-use Rattle.lmn_ground_parts.specs.Walks.{IsPartInDepth}
 use Rattle.lmn_instr_code.specs.declared.instr.NewPort.{NewPort}
 use Rattle.lmn_instr_code.specs.declared.instr.NewPort.TheVariants as new
 use Rattle.lmn_instr_code.specs.declared.instr.Instr.{Instr}
@@ -120,20 +119,6 @@ abbrev pub CopiesNone : Instr → Type 0
 CopiesNone (CopyGround x y z) = ⊥
 CopiesNone _ = Unit {0}
 
--- An instruction makes an atom, and nothing else.
-abbrev pub MakesAtom : Instr → Type 0
-MakesAtom (NewAtom a m f) = Unit {0}
-MakesAtom (NewInt a m v) = Unit {0}
-MakesAtom _ = ⊥
-
--- An instruction before a place of code copies the part in this register, and behind it up to there atoms alone are made.
-abbrev pub CopiesBefore : List Instr → (at part : ℕ) → Type 0
-CopiesBefore code at part = (k x y : ℕ) × (k < at) × (slice_get code k ≡ Some (CopyGround x y part)) × ((j : ℕ) (i : Instr) → k < j → j < at → slice_get code j ≡ Some i → MakesAtom i)
-
--- Where a part is copied so before a place of code, these are its atoms, as a walk finds them.
-abbrev pub ListsCopied : {A : Type 0} → (A → ℕ) → Heap → List (A × ℕ) → List Instr → ℕ → List A → Type 0
-ListsCopied {A} atom s parts code at trail = (part : ℕ) (p : A × ℕ) → CopiesBefore code at part → slice_get parts part ≡ Some p → IsPartInDepth s (port_id atom p) (map atom trail)
-
 -- ---- what a match must hold, and what is prepared
 
 -- A part can be copied: it is entered at a port, each of its other ports is joined, and its root leads out of it.
@@ -197,10 +182,10 @@ AtomIsMade {A} atom s t g k f = (a : A) × (s.atoms (atom a) ≡ None) × (t ≡
 abbrev pub MembraneIsMade : {A M : Type 0} → (M → ℕ) → Heap → Heap → SetRegisters A M → SetRegisters A M → Type 0
 MembraneIsMade {A} {M} membrane s t g k = (m : M) × (s.mems (membrane m) ≡ None) × (t ≡ made_mem s (membrane m)) × (k ≡ record g { membranes = g.membranes ++ m ∷ [] })
 
--- one more copy, with the number of its atoms
+-- one more copy, with the number of its atoms; another part may be listed
 abbrev pub CopyIsMade : {A M : Type 0} → (A → ℕ) → Heap → Heap → SetRegisters A M → SetRegisters A M → ℕ × ℕ → Type 0
 CopyIsMade {A} atom s t g k root =
-    (p : PartCopy A) × (w : Copied s t root (port_id atom p.root)) × (length w.copies ≡ p.atoms) × (k ≡ record g { copies = g.copies ++ p ∷ [] })
+    (p : PartCopy A) × (w : Copied s t root (port_id atom p.root)) × (length w.copies ≡ p.atoms) × (k ≡ record g { copies = g.copies ++ p ∷ []; listed = k.listed })
 
 -- A copy more of the rest of a membrane besides registers. Each membrane is there, with its rules, and has as much room as it had.
 pub record RestIsMade {A M : Type 0} (atom : A → ℕ) (membrane : M → ℕ) (s t : Heap) (g : SetRegisters A M) (m : ℕ) : Type 0 where

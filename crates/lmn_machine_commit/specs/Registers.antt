@@ -5,6 +5,7 @@ use Rattle.lmn_base.specs.Lists.{In}
 use Rattle.lmn_store_heap.specs.Heap.{Heap, IsAtom, IsMem, atoms_in, port_id}
 use Rattle.lmn_store_heap.specs.Graphs.{atom_map}
 use Rattle.lmn_ground_parts.specs.Rests.{IsRest}
+use Rattle.lmn_ground.specs.Listed.{IsListed}
 use Rattle.lmn_ground_parts.specs.Walks.{is_in}
 use Rattle.lmn_solid_bodies.specs.Running.{Registers}
 use Rattle.lmn_machine_registers.specs.declared.registers.PartCopy.{PartCopy}
@@ -31,11 +32,12 @@ AreMembraneHandles {M} membrane h handles = (k : ℕ) (m : M) → slice_get hand
 abbrev pub AreRootHandles : {A : Type 0} → (A → ℕ) → Heap → List (A × ℕ) → Type 0
 AreRootHandles {A} atom h handles = (k : ℕ) (p : A × ℕ) → slice_get handles k ≡ Some p → IsAtom h (atom p.0)
 
--- the handles in the registers are of atoms and of membranes
+-- the handles in the registers are of atoms and of membranes, and the part that is listed is there
 pub record AreHeld {A M : Type 0} (atom : A → ℕ) (membrane : M → ℕ) (h : Heap) (g : SetRegisters A M) : Type 0 where
   pub atoms : AreAtomHandles atom h g.atoms
   pub membranes : AreMembraneHandles membrane h g.membranes
   pub parts : AreRootHandles atom h g.parts
+  pub listed : IsListed atom h g.listed
 
 -- the copies in registers have as many atoms as these lists
 pub record AreSized {A : Type 0} (copies : List (PartCopy A)) (copied : List (List ℕ)) : Type 0 where

@@ -1,18 +1,19 @@
 //! Does what the code of a body does, when all that it makes is made.
-ghost use Rattle.std.specs.Prelude.{◌≡◌, ◌<◌, ◌++◌, ℕ, List, Some, length, map, slice_get};
+ghost use Rattle.std.specs.Prelude.{◌≡◌, ◌<◌, ◌++◌, ℕ, List, Some, IsTrue, false, length, map, slice_get};
+ghost use Rattle.lmn_ground.specs.Listed.{IsListed};
 ghost use Rattle.lmn_solid_bodies.specs.Running.{Registers, DoesAll, Does, all_placed, old_port, new_port};
 ghost use Rattle.lmn_store_heap.specs.Heap.{IsMemInPlace, port_id, Unmarked};
 ghost use Rattle.lmn_solid_bodies.specs.Conditions.{Can};
 ghost use Rattle.lmn_machine_commit.specs.Registers.{AgreesWithCopies, HasCopies, HasRests};
 ghost use Rattle.lmn_machine_commit.specs.Preparing.{AllUse, Uses, UsesPort};
-ghost use Rattle.lmn_machine_commit.specs.Committing.{Runs, Stands};
+ghost use Rattle.lmn_machine_commit.specs.Committing.{IsDoneSoFar, Runs, Stands};
 ghost use Rattle.lmn_machine_commit.specs.Matched.{IsPrepared};
 ghost use Rattle.lmn_store_heap.specs.Sound.{Valid};
 ghost use Rattle.lmn_machine_commit.specs.Waking.{Commits};
 
 use crate::splicing::{relink, unify};
 use crate::waking::wake;
-use lmn_ground::{Found, drop_cells, place_cells, take_part};
+use lmn_ground::{Found, drop_cells, place_cells, take_listed, take_part};
 use lmn_instr_code::{AtomPort, Instr, NewPort};
 use lmn_instr_pool::Body;
 use lmn_machine_registers::SetRegisters;
@@ -122,6 +123,63 @@ fn run<S: LinkStore>(
     }
 }
 
+/// Does what an instruction does, if it takes an atom or a part. Answers whether it is one that does.
+#[inline(always)]
+fn take_next<S: LinkStore>(
+    store: &mut S,
+    instr: &Instr,
+    set: &SetRegisters<S::Atom, S::Mem>,
+    trail: &mut Found<S::Atom>,
+) -> bool
+    requires unmarked { Unmarked (S.heap store.old) }
+    requires uses { Uses (length set.now.atoms) (length set.now.membranes) (length set.now.parts) (length set.now.copies) instr.now }
+    requires can { (r : Registers) × AgreesWithCopies S.atom_id S.mem_id set.now r × Can r instr.now (S.heap store.old) × Stands r instr.now (S.heap store.old) }
+    requires listed { IsListed S.atom_id (S.heap store.old) set.now.listed }
+    ensures does { IsTrue result → (r : Registers) → AgreesWithCopies S.atom_id S.mem_id set.now r → Can r instr.now (S.heap store.old) → Does r instr.now (S.heap store.old) (S.heap store.new) }
+    ensures other { result ≡ false → S.heap store.new ≡ S.heap store.old }
+    ensures listed { IsListed S.atom_id (S.heap store.new) set.now.listed }
+{
+    let _root = store.root();
+    match instr {
+        Instr::RemoveAtom { atom } => {
+            store.take_atom(set.atoms.at(*atom as usize));
+            true
+        }
+        Instr::RemovePart { part } => {
+            let root = set.parts.at(*part as usize);
+            take_listed(store, root, &set.listed, trail);
+            true
+        }
+        _ => false,
+    }
+}
+
+/// Does what the instructions do with which code begins, as long as they take atoms and parts. Answers the code behind them.
+#[inline(always)]
+fn take_first<'c, S: LinkStore>(
+    store: &mut S,
+    code: &'c [Instr],
+    set: &SetRegisters<S::Atom, S::Mem>,
+    trail: &mut Found<S::Atom>,
+) -> &'c [Instr]
+    requires unmarked { Unmarked (S.heap store.old) }
+    requires uses { AllUse (length set.now.atoms) (length set.now.membranes) (length set.now.parts) (length set.now.copies) code.now }
+    requires runs { (r : Registers) × AgreesWithCopies S.atom_id S.mem_id set.now r × Runs r code.now (S.heap store.old) }
+    requires listed { IsListed S.atom_id (S.heap store.old) set.now.listed }
+    ensures done { IsDoneSoFar S.atom_id S.mem_id set.now code.now result.now (S.heap store.old) (S.heap store.new) }
+    ensures uses { AllUse (length set.now.atoms) (length set.now.membranes) (length set.now.parts) (length set.now.copies) result.now }
+    ensures unmarked { Unmarked (S.heap store.new) }
+{
+    let mut rest = code;
+    while let Some((instr, behind)) = rest.split_first() {
+        if !take_next(store, instr, set, trail) {
+            return rest;
+        }
+        rest = behind;
+    }
+    rest
+}
+
 /// Does what code does, one instruction after the other.
 #[inline(always)]
 fn run_each<S: LinkStore>(
@@ -143,7 +201,7 @@ fn run_each<S: LinkStore>(
     }
 }
 
-/// Does what code does.
+/// Does what code does. What it takes first it takes along its list, if that is the part that is listed.
 fn run_all<S: LinkStore>(
     store: &mut S,
     code: &Body<'_>,
@@ -153,10 +211,12 @@ fn run_all<S: LinkStore>(
     requires unmarked { Unmarked (S.heap store.old) }
     requires uses { AllUse (length set.now.atoms) (length set.now.membranes) (length set.now.parts) (length set.now.copies) code.now }
     requires runs { (r : Registers) × AgreesWithCopies S.atom_id S.mem_id set.now r × Runs r code.now (S.heap store.old) }
+    requires listed { IsListed S.atom_id (S.heap store.old) set.now.listed }
     ensures commits { (r : Registers) → AgreesWithCopies S.atom_id S.mem_id set.now r → Runs r code.now (S.heap store.old) → DoesAll r code.now (S.heap store.old) (S.heap store.new) }
     ensures unmarked { Unmarked (S.heap store.new) }
 {
-    run_each(store, code.as_slice(), set, trail);
+    let rest = take_first(store, code.as_slice(), set, trail);
+    run_each(store, rest, set, trail);
 }
 
 /// Does what code does, after it was matched and prepared: a rule is fired. The code may be that of a rule or not; what is

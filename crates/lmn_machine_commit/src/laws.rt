@@ -1,5 +1,5 @@
 //! Laws of the code of bodies.
-ghost use Rattle.lmn_machine_commit.specs.Examples.{CopiesAreNotReady, EmptyBodyIsReady};
+ghost use Rattle.lmn_machine_commit.specs.Examples.{CopiesAreNotReady, EmptyBodyIsReady, LostAtomsAreNotReady};
 ghost use Rattle.lmn_machine_commit.specs.Matched.{BodiesCanBeCommitted};
 ghost use Rattle.lmn_machine_commit.specs.Orders.{BodiesAreInOrder};
 ghost use Rattle.lmn_machine_commit.specs.Touching.{RulesWakeTouched};
@@ -30,4 +30,10 @@ pub fn empty_body_is_ready()
 #[tactic(auto, using(crate::proofs::EmptyExamples::copies_are_not_ready))]
 pub fn copies_are_not_ready()
     ensures { CopiesAreNotReady }
+{}
+
+/// Nor where an atom is listed that isn't there.
+#[tactic(auto, using(crate::proofs::EmptyExamples::lost_atoms_are_not_ready))]
+pub fn lost_atoms_are_not_ready()
+    ensures { LostAtomsAreNotReady }
 {}

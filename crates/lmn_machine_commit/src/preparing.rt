@@ -1,12 +1,12 @@
 //! Makes all that the code of a body makes.
-ghost use Rattle.std.specs.Prelude.{◌≡◌, ◌<◌, ◌≤◌, ◌+◌, ℕ, List, length, map, take, slice_get, Some, IfOk, IsTrue, OnOk, OnErr};
+ghost use Rattle.std.specs.Prelude.{◌≡◌, ◌<◌, ◌≤◌, ◌+◌, ℕ, List, length, map, take, slice_get, Some, IfOk, OnOk, OnErr};
 ghost use Rattle.lmn_store_heap.specs.Heap.{IsMem, reserved, rules_in, spare_of, Unmarked};
 ghost use Rattle.lmn_store_heap.specs.Sound.{Valid};
-ghost use Rattle.lmn_ground_parts.specs.Walks.{IsPartInDepth};
+ghost use Rattle.lmn_ground.specs.Listed.{IsListed};
 ghost use Rattle.lmn_solid_bodies.specs.Running.{Registers};
 ghost use Rattle.lmn_solid_bodies.specs.Stopping.{SameButSpares};
 ghost use Rattle.lmn_machine_commit.specs.Registers.{AgreesWithCopies, AreHeld};
-ghost use Rattle.lmn_machine_commit.specs.Preparing.{AddsSo, AllUse, AreAtHome, AtomIsMade, CanBeCopied, CanCopy, CanCopyRest, CanPrepare, CopiesBefore, CopiesNone, CopyIsMade, HasClosedRest, RestIsMade, MakesAtom, MembraneIsMade, OnlyMakes, IsCounted, IsMade, KeepsCount, ListsCopied, Prepared, UsesInOrder, Uses, needed, needed_by};
+ghost use Rattle.lmn_machine_commit.specs.Preparing.{AddsSo, AllUse, AreAtHome, AtomIsMade, CanBeCopied, CanCopy, CanCopyRest, CanPrepare, CopiesNone, CopyIsMade, HasClosedRest, RestIsMade, MembraneIsMade, OnlyMakes, IsCounted, IsMade, KeepsCount, Prepared, UsesInOrder, Uses, needed, needed_by};
 ghost use Rattle.lmn_machine_registers.specs.declared.stack.TheConstants.{ROOM};
 ghost use Rattle.lmn_instr_code.specs.declared.instr.Instr.{Instr};
 
@@ -51,43 +51,23 @@ fn make_membrane<S: LinkStore>(
     Ok(())
 }
 
-/// Whether an instruction before a place of code copies the part in a register, and behind it up to there atoms alone are made.
-fn copies_before(code: &Body<'_>, at: usize, part: u16) -> bool
-    requires { at ≤ length code.now }
-    ensures { IsTrue result → CopiesBefore code.now at part }
-{
-    let mut place = at;
-    while place > 0 {
-        match code.at(place - 1) {
-            Instr::CopyGround { part: before, .. } => return *before == part,
-            Instr::NewAtom { .. } => place -= 1,
-            Instr::NewInt { .. } => place -= 1,
-            _ => return false,
-        }
-    }
-    false
-}
-
-/// Copies a part; the root of the copy and the number of its atoms go into the next register. `trail` has the atoms of the part then;
-/// with `listed` it has them before.
+/// Copies a part; the root of the copy and the number of its atoms go into the next register. The part is listed then.
 fn make_copy<S: LinkStore>(
     alloc: Global,
     store: &mut S,
     part: (S::Atom, u8),
     set: &mut SetRegisters<S::Atom, S::Mem>,
-    trail: &mut Found<S::Atom>,
-    listed: bool,
 ) -> Result<(), NoMemory>
     requires room { length set.old.copies < ROOM }
     requires unmarked { Unmarked (S.heap store.old) }
     requires part { CanBeCopied (S.heap store.old) (S.atom_id part.0, part.1) }
-    requires listed { IsTrue listed → IsPartInDepth (S.heap store.old) (S.atom_id part.0, part.1) (map S.atom_id trail.old) }
+    requires listed { IsListed S.atom_id (S.heap store.old) set.old.listed }
     ensures ok { OnOk result (CopyIsMade S.atom_id (S.heap store.old) (S.heap store.new) set.old set.new (S.atom_id part.0, part.1)) }
-    ensures listed { OnOk result (IsPartInDepth (S.heap store.new) (S.atom_id part.0, part.1) (map S.atom_id trail.new)) }
+    ensures listed { OnOk result (IsListed S.atom_id (S.heap store.new) set.new.listed) }
     ensures makes { OnlyMakes (S.heap store.old) (S.heap store.new) }
 {
     let _root = store.root();
-    let copied = copy_counted(alloc, store, part, trail, listed)?;
+    let copied = copy_counted(alloc, store, part, &mut set.listed)?;
     set.copies.push(PartCopy {
         root: copied.root,
         atoms: copied.atoms,
@@ -278,7 +258,6 @@ fn make<S: LinkStore>(
     requires homes { AreAtHome S.atom_id (S.heap store.old) set.old.parts }
     requires rest { CanCopyRest S.atom_id S.mem_id (S.heap store.old) set.old instr.now }
     ensures ok { (before : List Instr) → OnOk result (IsMade S.atom_id S.mem_id (S.heap store.old) (S.heap store.new) set.old set.new before instr.now) }
-    ensures trail { MakesAtom instr.now → trail.new ≡ trail.old }
     ensures makes { OnlyMakes (S.heap store.old) (S.heap store.new) }
 {
     match instr {
@@ -320,9 +299,7 @@ fn make_next<S: LinkStore>(
     requires homes { AreAtHome S.atom_id (S.heap store.old) set.old.parts }
     requires rest { CanCopyRest S.atom_id S.mem_id (S.heap store.old) set.old instr.now }
     requires counted { IsCounted S.atom_id S.mem_id (S.heap store.old) set.old (take at code.now) counted.register counted.count }
-    requires listed { ListsCopied S.atom_id (S.heap store.old) set.old.parts code.now at trail.old }
     ensures ok { OnOk result (IsMade S.atom_id S.mem_id (S.heap store.old) (S.heap store.new) set.old set.new (take at code.now) instr.now) }
-    ensures listed { OnOk result (ListsCopied S.atom_id (S.heap store.new) set.new.parts code.now (at + 1) trail.new) }
     ensures counted { IfOk result (λ next. IsCounted S.atom_id S.mem_id (S.heap store.new) set.new (take (at + 1) code.now) next.register next.count) }
     ensures makes { OnlyMakes (S.heap store.old) (S.heap store.new) }
 {
@@ -352,8 +329,7 @@ fn make_next<S: LinkStore>(
         Instr::CopyGround { part, .. } => {
             let _code = code.len();
             let root = set.parts.at(*part as usize);
-            let listed = copies_before(code, at, *part);
-            make_copy(alloc, store, root, set, trail, listed)?;
+            make_copy(alloc, store, root, set)?;
             Ok(counted)
         }
         _ => {

@@ -9,7 +9,7 @@ ghost use Rattle.lmn_store_slab.specs.Kept.{heap_of};
 use crate::making::Step::{Atom, Join, Membrane};
 use crate::making::{Step, add_atom, add_membrane, join, made, new_store};
 use lmn_base::{Functor, Label, Names};
-use lmn_ground::{Found, copy, equal, is_ground, size_of, take_part};
+use lmn_ground::{Found, PartList, copy, equal, is_ground, size_of, take_part};
 use lmn_store_slab::SlabStore;
 use lmn_store_trait::LinkStore;
 use std::alloc::AllocGlobal;
@@ -61,6 +61,11 @@ fn room(rt: &(impl Abort + AllocGlobal)) -> Found<usize> {
     Found::with_room(rt.alloc(), 100).expect(rt, "memory")
 }
 
+/// A list that says nothing.
+fn no_list(rt: &(impl Abort + AllocGlobal)) -> PartList<usize> {
+    PartList::with_room(rt.alloc(), 100).expect(rt, "memory")
+}
+
 fn grounds(
     rt: &(impl Abort + AllocGlobal),
     store: &mut SlabStore,
@@ -72,8 +77,8 @@ fn grounds(
 {
     assert!(rt; store.has_port(root.0, root.1));
     assert!(rt; store.has_mem(m));
-    let mut trail = room(rt);
-    is_ground(store, root, m, &mut trail)
+    let mut list = no_list(rt);
+    is_ground(store, root, m, &mut list)
 }
 
 /// A part that is ground in a membrane.
@@ -89,8 +94,8 @@ fn part(rt: &(impl Abort + AllocGlobal), store: &mut SlabStore, root: (usize, u8
     let _root = store.root();
     assert!(rt; store.has_port(root.0, root.1));
     assert!(rt; store.has_mem(m));
-    let mut trail = room(rt);
-    let ground = is_ground(store, root, m, &mut trail);
+    let mut list = no_list(rt);
+    let ground = is_ground(store, root, m, &mut list);
     assert!(rt; ground);
 }
 

@@ -1,4 +1,5 @@
 use Rattle.std.proofs.Common.{ap, map, refl, subst, sym, ◌∙◌, ◌≡◌, ℕ}
+use Rattle.std.specs.Prelude.{IfSome}
 use Rattle.lmn_base.specs.Lists.{In}
 use Rattle.lmn_store_heap.specs.Heap.{Heap, arity_of}
 use Rattle.lmn_ground_parts.specs.Copies.{all_joined, answer, ports_of}
@@ -73,3 +74,6 @@ returns-clause-ok g c =
       long ∙ length_map g.S.LinkStore.atom_id c.args.atoms.now,
       rest_joined h root xs ys c.root-sound.ensures.sound c.requires.there made.fresh long c.requires.once first_in c.requires.stays off (g.S.LinkStore.heap c.join_copies.new.store) (c.join_copies.ensures ∙ ap (λ (z : Heap). all_joined (answer xs ys) root z (ports_of z xs)) made.is),
     )
+
+pub join_copies-requires-clause-first : goal.join_copies-requires-clause-first
+join_copies-requires-clause-first g c = subst (λ o. IfSome o (λ a. g.S.LinkStore.atom_id a ≡ g.S.LinkStore.atom_id c.at-first.result.now)) (sym c.at-first.ensures) refl

@@ -1,18 +1,9 @@
-use Rattle.std.proofs.Common.{subst, sym}
-use Rattle.lmn_ground_parts.specs.Copies.{Copied}
-use Rattle.lmn_ground.proofs.SpreadLaws.{clean_part}
-use Rattle.lmn_ground.proofs.CopiedLaws.{alone_after}
+use Rattle.std.proofs.Common.{ap, refl}
+use Rattle.lmn_ground.proofs.ListedLaws.{listed_none, listed_part}
 use Rattle.lmn_ground.proofs.copying.copy_counted.Goals as goal
 
-pub copy_marked-copied-requires-clause-clean : goal.copy_marked-copied-requires-clause-clean
-copy_marked-copied-requires-clause-clean g c = clean_part _ _ c.arity-ports.ensures.sound c.requires.root.1 c.requires.clean
+pub returns-in-Ok-clause-listed : goal.returns-in-Ok-clause-listed
+returns-in-Ok-clause-listed g c = listed_part _ _ _ c.arity-arity.ensures.sound (g.S.LinkStore.atom_id c.args.root.0, c.args.root.1) c.requires.root refl c.in-Ok.ensures.ok.1
 
-pub returns-in-Ok-clause-alone : goal.returns-in-Ok-clause-alone
-returns-in-Ok-clause-alone g c = alone_after (g.S.LinkStore.heap c.args.store.now) _ (g.S.LinkStore.heap c.clear.new.store) c.copy_marked-copied.result (g.S.LinkStore.atom_id c.args.root.0, c.args.root.1) (λ a. (g.S.LinkStore.atom_id a, c.args.root.1)) c.copy_marked-copied.ensures.ok c.copy_marked-copied.ensures.err c.clear.ensures
-
-pub returns-in-Ok-clause-ok : goal.returns-in-Ok-clause-ok
-returns-in-Ok-clause-ok g c = (
-  subst (λ h. Copied (g.S.LinkStore.heap c.args.store.now) h (g.S.LinkStore.atom_id c.args.root.0, c.args.root.1) (g.S.LinkStore.atom_id c.in-Ok.copy, c.args.root.1)) (sym c.clear.ensures) c.in-Ok.ensures.ok,
-  c.in-Ok.ensures.part,
-  c.len.ensures,
-)
+pub returns-in-Err-clause-listed : goal.returns-in-Err-clause-listed
+returns-in-Err-clause-listed g c = listed_none _ _ _ (ap (λ l. l.atoms) c.forget.ensures)

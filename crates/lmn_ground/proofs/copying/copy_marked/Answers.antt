@@ -3,6 +3,7 @@ use Rattle.lmn_ground.specs.Copies.{unmarked_all}
 use Rattle.lmn_ground_parts.specs.Copies.{Copied}
 use Rattle.lmn_ground.proofs.CopyLaws.{map_long}
 use Rattle.lmn_ground.proofs.CopiedLaws.{first_answer, some_first, remains_none, remains_some, made_there, copies_ready, copies_numbered, joined_there, copied_all}
+use Rattle.lmn_ground.proofs.ListedLaws.{first_if}
 use Rattle.lmn_ground.proofs.copying.copy_marked.Goals as goal
 use Rattle.lmn_base.proofs.Lists.{on_err}
 
@@ -40,3 +41,6 @@ returns-clause-ok g c =
 
 pub returns-clause-part : goal.returns-clause-part
 returns-clause-part g c = c.in_ok-list_part.ensures.ok.part
+
+pub join_copies-requires-clause-first : goal.join_copies-requires-clause-first
+join_copies-requires-clause-first g c = first_if g.S.LinkStore.atom_id (g.S.LinkStore.heap c.args.store.now) (g.S.LinkStore.atom_id c.args.root.0, c.args.root.1) c.list_part.new.atoms c.in_ok-list_part.ensures.ok.part

@@ -1,19 +1,22 @@
 use Rattle.std.proofs.Common.{◌∙◌, map}
 use Rattle.lmn_ground_parts.specs.Copies.{answer}
-use Rattle.lmn_ground.proofs.CopyLaws.{port_copying, port_numbers, port_arity, port_done}
+use Rattle.lmn_ground.proofs.CopyLaws.{other_port, port_copying, port_numbers, port_arity, port_done}
 use Rattle.lmn_ground.proofs.copying.join_ports.Goals as goal
 
 pub loop-i-preserved : goal.loop-i-preserved
 loop-i-preserved g c =
     let t = c.loop-i.invariant in
-    let e = c.join_port.ensures in
+    let e = c.join_inner_port.ensures in
     record {
       copying = port_copying (g.S.LinkStore.atom_id c.args.root.0, c.args.root.1) (map g.S.LinkStore.atom_id c.args.atoms.now) (map g.S.LinkStore.atom_id c.args.copies.now)
-          (g.S.LinkStore.heap c.loop-i.store) (g.S.LinkStore.heap c.join_port.new.store) (g.S.LinkStore.atom_id c.args.a) t.copying c.requires.among c.loop-i.i e;
+          (g.S.LinkStore.heap c.loop-i.store) (g.S.LinkStore.heap c.join_inner_port.new.store) (g.S.LinkStore.atom_id c.args.a) t.copying c.requires.among c.loop-i.i e;
       numbers = port_numbers (g.S.LinkStore.atom_id c.args.root.0, c.args.root.1) (answer (map g.S.LinkStore.atom_id c.args.atoms.now) (map g.S.LinkStore.atom_id c.args.copies.now))
-          (g.S.LinkStore.heap c.loop-i.store) (g.S.LinkStore.heap c.join_port.new.store) (g.S.LinkStore.atom_id c.args.a, c.loop-i.i) _ e t.numbers;
+          (g.S.LinkStore.heap c.loop-i.store) (g.S.LinkStore.heap c.join_inner_port.new.store) (g.S.LinkStore.atom_id c.args.a, c.loop-i.i) _ e t.numbers;
       arity = port_arity (g.S.LinkStore.atom_id c.args.root.0, c.args.root.1) (answer (map g.S.LinkStore.atom_id c.args.atoms.now) (map g.S.LinkStore.atom_id c.args.copies.now))
-          (g.S.LinkStore.heap c.loop-i.store) (g.S.LinkStore.heap c.join_port.new.store) (g.S.LinkStore.atom_id c.args.a, c.loop-i.i) _ e ∙ t.arity;
+          (g.S.LinkStore.heap c.loop-i.store) (g.S.LinkStore.heap c.join_inner_port.new.store) (g.S.LinkStore.atom_id c.args.a, c.loop-i.i) _ e ∙ t.arity;
       rest = port_done (g.S.LinkStore.atom_id c.args.root.0, c.args.root.1) (answer (map g.S.LinkStore.atom_id c.args.atoms.now) (map g.S.LinkStore.atom_id c.args.copies.now))
-          (g.S.LinkStore.heap c.loop-i.store) (g.S.LinkStore.heap c.join_port.new.store) _ (g.S.LinkStore.atom_id c.args.a) c.loop-i.i _ c.loop-i-test.true e t.rest;
+          (g.S.LinkStore.heap c.loop-i.store) (g.S.LinkStore.heap c.join_inner_port.new.store) _ (g.S.LinkStore.atom_id c.args.a) c.loop-i.i _ c.loop-i-test.true e t.rest;
     }
+
+pub join_inner_port-requires-clause-inner : goal.join_inner_port-requires-clause-inner
+join_inner_port-requires-clause-inner g c = other_port (g.S.LinkStore.atom_id c.args.a) c.loop-i.i (g.S.LinkStore.atom_id c.args.root.0, c.args.root.1) (λ w. c.requires.other w.0)

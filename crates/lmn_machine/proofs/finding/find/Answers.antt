@@ -1,4 +1,4 @@
-use Rattle.std.proofs.Common.{subst}
+use Rattle.std.proofs.Common.{ap, subst}
 use Rattle.std.specs.Prelude.{true, false}
 use Rattle.lmn_machine.specs.Searching.{Searched}
 use Rattle.lmn_machine.specs.Jumping.{Lasted, only_membrane}
@@ -24,3 +24,6 @@ pub returns-clause-looked : goal.returns-clause-looked
 returns-clause-looked g c =
     looked g.S.LinkStore.atom_id g.S.LinkStore.mem_id (g.S.LinkStore.heap c.args.store.now) c.args.membrane c.find_anew.new.set c.find_anew.result c.args.code.now
     (subst (λ h. Searched g.S.LinkStore.atom_id g.S.LinkStore.mem_id h (only_membrane c.args.membrane) c.find_anew.new.set c.find_anew.result c.args.code.now) c.begin.ensures.same c.find_anew.ensures.searched)
+
+pub begin-requires-clause-unlisted : goal.begin-requires-clause-unlisted
+begin-requires-clause-unlisted g c = ap (λ k. k.listed) c.clear.ensures

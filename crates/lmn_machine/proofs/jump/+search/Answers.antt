@@ -17,6 +17,7 @@ use Rattle.lmn_machine.proofs.Choosing.{atom_there, extends_atom, extends_membra
 use Rattle.lmn_machine.proofs.Fitting.{smaller}
 use Rattle.lmn_machine.proofs.Jumps.{within_itself}
 use Rattle.lmn_machine.proofs.Stepping.{Passed, extends_itself, extends_on, passed_one, passed_all}
+use Rattle.lmn_machine.proofs.Listing.{held_forgetting, ended_listing, listing}
 use Rattle.lmn_machine.proofs.Telling.{atoms_chosen, membranes_chosen}
 use Rattle.lmn_machine.proofs.Trying.{passed_none, PassedOn, passed_nothing, passed_one_on, ended_failed, ended_passed, jump_atom, alone_atom, AtomsLeftOn, atoms_left, atoms_first_on, atoms_next_on, atoms_none_on, jump_membrane, alone_membrane, MembranesLeftOn, membranes_left, membranes_first_on, membranes_next_on, membranes_none_on, OnlyOneOn, only_home_on, only_left_on, only_fails_on, outside}
 use Rattle.lmn_machine.proofs.jump.+search.Goals as goal
@@ -33,13 +34,15 @@ pub search-returns-in-ChoosesAtom-clause-ended : goal.search-returns-in-ChoosesA
 search-returns-in-ChoosesAtom-clause-ended g t c =
     ended_passed g.S.LinkStore.atom_id g.S.LinkStore.mem_id (g.S.LinkStore.heap c.args.store.now) c.args.reasons.now c.args.set.now c.loop-i.set c.choose_atom.new.set (drop c.args.at c.args.code.now) (drop c.loop-i.i c.args.code.now) c.choose_atom.result c.loop-i.invariant.passed c.loop-i.invariant.on
     (subst (λ k. Ended g.S.LinkStore.atom_id g.S.LinkStore.mem_id (g.S.LinkStore.heap c.args.store.now) c.args.reasons.now k c.choose_atom.new.set c.choose_atom.result (drop c.loop-i.i c.args.code.now)) c.in-ChoosesAtom.ensures.stepped.0
-    (subst (λ h. Ended g.S.LinkStore.atom_id g.S.LinkStore.mem_id h c.args.reasons.now c.step.new.set c.choose_atom.new.set c.choose_atom.result (drop c.loop-i.i c.args.code.now)) (c.in-ChoosesAtom.ensures.same ∙ c.loop-i.invariant.same) c.choose_atom.ensures.ended))
+    (ended_listing g.S.LinkStore.atom_id g.S.LinkStore.mem_id (g.S.LinkStore.heap c.args.store.now) c.step.new.set c.forget.new.self c.args.reasons.now c.choose_atom.new.set c.choose_atom.result (drop c.loop-i.i c.args.code.now)
+    (subst (λ h. Ended g.S.LinkStore.atom_id g.S.LinkStore.mem_id h c.args.reasons.now (listing c.step.new.set c.forget.new.self) c.choose_atom.new.set c.choose_atom.result (drop c.loop-i.i c.args.code.now)) (c.in-ChoosesAtom.ensures.same ∙ c.loop-i.invariant.same) c.choose_atom.ensures.ended)))
 
 pub search-returns-in-ChoosesMembrane-clause-ended : goal.search-returns-in-ChoosesMembrane-clause-ended
 search-returns-in-ChoosesMembrane-clause-ended g t c =
     ended_passed g.S.LinkStore.atom_id g.S.LinkStore.mem_id (g.S.LinkStore.heap c.args.store.now) c.args.reasons.now c.args.set.now c.loop-i.set c.choose_membrane.new.set (drop c.args.at c.args.code.now) (drop c.loop-i.i c.args.code.now) c.choose_membrane.result c.loop-i.invariant.passed c.loop-i.invariant.on
     (subst (λ k. Ended g.S.LinkStore.atom_id g.S.LinkStore.mem_id (g.S.LinkStore.heap c.args.store.now) c.args.reasons.now k c.choose_membrane.new.set c.choose_membrane.result (drop c.loop-i.i c.args.code.now)) c.in-ChoosesMembrane.ensures.stepped.0
-    (subst (λ h. Ended g.S.LinkStore.atom_id g.S.LinkStore.mem_id h c.args.reasons.now c.step.new.set c.choose_membrane.new.set c.choose_membrane.result (drop c.loop-i.i c.args.code.now)) (c.in-ChoosesMembrane.ensures.same ∙ c.loop-i.invariant.same) c.choose_membrane.ensures.ended))
+    (ended_listing g.S.LinkStore.atom_id g.S.LinkStore.mem_id (g.S.LinkStore.heap c.args.store.now) c.step.new.set c.forget-in-ChoosesMembrane.new.self c.args.reasons.now c.choose_membrane.new.set c.choose_membrane.result (drop c.loop-i.i c.args.code.now)
+    (subst (λ h. Ended g.S.LinkStore.atom_id g.S.LinkStore.mem_id h c.args.reasons.now (listing c.step.new.set c.forget-in-ChoosesMembrane.new.self) c.choose_membrane.new.set c.choose_membrane.result (drop c.loop-i.i c.args.code.now)) (c.in-ChoosesMembrane.ensures.same ∙ c.loop-i.invariant.same) c.choose_membrane.ensures.ended)))
 
 pub search-loop-i-preserved : goal.search-loop-i-preserved
 search-loop-i-preserved g t c =
@@ -170,7 +173,7 @@ try_atom-returns-in-Err-clause-tried g t c =
     let more = one_more c.args.set.now c.args.set.now c.args.atom c.push.new.self refl c.push.ensures in
     let ended = subst (λ k. Ended g.S.LinkStore.atom_id g.S.LinkStore.mem_id (g.S.LinkStore.heap c.args.store.now) c.args.reasons.now k c.search.new.set (Err c.in-Err.failed) (drop (c.args.at + 1) c.args.code.now)) more c.in-Err.ensures.ended in (
       taken_back c.args.set.now c.search.new.set c.keep.new.self c.len-atoms.result c.len-membranes.result c.len-parts.result c.len-integers.result c.len-atoms.ensures c.len-membranes.ensures c.len-parts.ensures c.len-integers.ensures
-          (extends_on g.S.LinkStore.atom_id g.S.LinkStore.mem_id (g.S.LinkStore.heap c.args.store.now) c.args.set.now (with_atom c.args.set.now c.args.atom) c.search.new.set (extends_atom g.S.LinkStore.atom_id g.S.LinkStore.mem_id (g.S.LinkStore.heap c.args.store.now) c.args.set.now c.args.atom) ended.1) c.keep.ensures,
+          (extends_on g.S.LinkStore.atom_id g.S.LinkStore.mem_id (g.S.LinkStore.heap c.args.store.now) c.args.set.now (with_atom c.args.set.now c.args.atom) c.search.new.set (extends_atom g.S.LinkStore.atom_id g.S.LinkStore.mem_id (g.S.LinkStore.heap c.args.store.now) c.args.set.now c.args.atom) ended.1) c.requires.unlisted c.keep.ensures,
       ended.2,
     )
 
@@ -278,23 +281,23 @@ try_membrane-returns-in-Err-clause-tried g t c =
     let more = one_membrane_more c.args.set.now c.args.set.now c.args.membrane c.push.new.self refl c.push.ensures in
     let ended = subst (λ k. Ended g.S.LinkStore.atom_id g.S.LinkStore.mem_id (g.S.LinkStore.heap c.args.store.now) c.args.reasons.now k c.search.new.set (Err c.in-Err.failed) (drop (c.args.at + 1) c.args.code.now)) more c.in-Err.ensures.ended in (
       taken_back c.args.set.now c.search.new.set c.keep.new.self c.len-atoms.result c.len-membranes.result c.len-parts.result c.len-integers.result c.len-atoms.ensures c.len-membranes.ensures c.len-parts.ensures c.len-integers.ensures
-          (extends_on g.S.LinkStore.atom_id g.S.LinkStore.mem_id (g.S.LinkStore.heap c.args.store.now) c.args.set.now (with_membrane c.args.set.now c.args.membrane) c.search.new.set (extends_membrane g.S.LinkStore.atom_id g.S.LinkStore.mem_id (g.S.LinkStore.heap c.args.store.now) c.args.set.now c.args.membrane) ended.1) c.keep.ensures,
+          (extends_on g.S.LinkStore.atom_id g.S.LinkStore.mem_id (g.S.LinkStore.heap c.args.store.now) c.args.set.now (with_membrane c.args.set.now c.args.membrane) c.search.new.set (extends_membrane g.S.LinkStore.atom_id g.S.LinkStore.mem_id (g.S.LinkStore.heap c.args.store.now) c.args.set.now c.args.membrane) ended.1) c.requires.unlisted c.keep.ensures,
       ended.2,
     )
 
 pub search-choose_atom-requires : goal.search-choose_atom-requires
 search-choose_atom-requires g t c κs within =
-    (search rules, (search rules, (search rules, (search rules, (subst (λ h. Valid h) (sym (c.in-ChoosesAtom.ensures.same ∙ c.loop-i.invariant.same)) c.requires.valid, (subst (λ h. Unmarked h) (sym (c.in-ChoosesAtom.ensures.same ∙ c.loop-i.invariant.same)) c.requires.unmarked, (subst (λ k. AreHeldWhole g.S.LinkStore.atom_id g.S.LinkStore.mem_id (g.S.LinkStore.heap c.step.new.store) k) (sym c.in-ChoosesAtom.ensures.stepped.0) (subst (λ h. AreHeldWhole g.S.LinkStore.atom_id g.S.LinkStore.mem_id h c.loop-i.set) (sym (c.in-ChoosesAtom.ensures.same ∙ c.loop-i.invariant.same)) c.loop-i.invariant.passed.held), (c.at-instr.ensures, (c.in-ChoosesAtom.ensures.stepped.1, (subst (λ k. HeadInOrder (length k.atoms) (length k.membranes) (length k.parts) (length k.integers) (drop c.loop-i.i c.args.code.now)) (sym c.in-ChoosesAtom.ensures.stepped.0) c.loop-i.invariant.passed.order, c.requires.rest))))))))))
+    (search rules, (search rules, (search rules, (search rules, (subst (λ h. Valid h) (sym (c.in-ChoosesAtom.ensures.same ∙ c.loop-i.invariant.same)) c.requires.valid, (subst (λ h. Unmarked h) (sym (c.in-ChoosesAtom.ensures.same ∙ c.loop-i.invariant.same)) c.requires.unmarked, (held_forgetting g.S.LinkStore.atom_id g.S.LinkStore.mem_id (g.S.LinkStore.heap c.step.new.store) c.step.new.set c.forget.new.self c.forget.ensures (subst (λ k. AreHeldWhole g.S.LinkStore.atom_id g.S.LinkStore.mem_id (g.S.LinkStore.heap c.step.new.store) k) (sym c.in-ChoosesAtom.ensures.stepped.0) (subst (λ h. AreHeldWhole g.S.LinkStore.atom_id g.S.LinkStore.mem_id h c.loop-i.set) (sym (c.in-ChoosesAtom.ensures.same ∙ c.loop-i.invariant.same)) c.loop-i.invariant.passed.held)), (c.at-instr.ensures, (c.in-ChoosesAtom.ensures.stepped.1, (subst (λ k. HeadInOrder (length k.atoms) (length k.membranes) (length k.parts) (length k.integers) (drop c.loop-i.i c.args.code.now)) (sym c.in-ChoosesAtom.ensures.stepped.0) c.loop-i.invariant.passed.order, (c.requires.rest, c.forget.ensures)))))))))))
 
 pub search-choose_membrane-requires : goal.search-choose_membrane-requires
 search-choose_membrane-requires g t c κs within =
-    (search rules, (search rules, (search rules, (search rules, (subst (λ h. Valid h) (sym (c.in-ChoosesMembrane.ensures.same ∙ c.loop-i.invariant.same)) c.requires.valid, (subst (λ h. Unmarked h) (sym (c.in-ChoosesMembrane.ensures.same ∙ c.loop-i.invariant.same)) c.requires.unmarked, (subst (λ k. AreHeldWhole g.S.LinkStore.atom_id g.S.LinkStore.mem_id (g.S.LinkStore.heap c.step.new.store) k) (sym c.in-ChoosesMembrane.ensures.stepped.0) (subst (λ h. AreHeldWhole g.S.LinkStore.atom_id g.S.LinkStore.mem_id h c.loop-i.set) (sym (c.in-ChoosesMembrane.ensures.same ∙ c.loop-i.invariant.same)) c.loop-i.invariant.passed.held), (c.at-instr.ensures, (c.in-ChoosesMembrane.ensures.stepped.1, (subst (λ k. HeadInOrder (length k.atoms) (length k.membranes) (length k.parts) (length k.integers) (drop c.loop-i.i c.args.code.now)) (sym c.in-ChoosesMembrane.ensures.stepped.0) c.loop-i.invariant.passed.order, c.requires.rest))))))))))
+    (search rules, (search rules, (search rules, (search rules, (subst (λ h. Valid h) (sym (c.in-ChoosesMembrane.ensures.same ∙ c.loop-i.invariant.same)) c.requires.valid, (subst (λ h. Unmarked h) (sym (c.in-ChoosesMembrane.ensures.same ∙ c.loop-i.invariant.same)) c.requires.unmarked, (held_forgetting g.S.LinkStore.atom_id g.S.LinkStore.mem_id (g.S.LinkStore.heap c.step.new.store) c.step.new.set c.forget-in-ChoosesMembrane.new.self c.forget-in-ChoosesMembrane.ensures (subst (λ k. AreHeldWhole g.S.LinkStore.atom_id g.S.LinkStore.mem_id (g.S.LinkStore.heap c.step.new.store) k) (sym c.in-ChoosesMembrane.ensures.stepped.0) (subst (λ h. AreHeldWhole g.S.LinkStore.atom_id g.S.LinkStore.mem_id h c.loop-i.set) (sym (c.in-ChoosesMembrane.ensures.same ∙ c.loop-i.invariant.same)) c.loop-i.invariant.passed.held)), (c.at-instr.ensures, (c.in-ChoosesMembrane.ensures.stepped.1, (subst (λ k. HeadInOrder (length k.atoms) (length k.membranes) (length k.parts) (length k.integers) (drop c.loop-i.i c.args.code.now)) (sym c.in-ChoosesMembrane.ensures.stepped.0) c.loop-i.invariant.passed.order, (c.requires.rest, c.forget-in-ChoosesMembrane.ensures)))))))))))
 
 pub choose_atom-search_atoms-requires : goal.choose_atom-search_atoms-requires
 choose_atom-search_atoms-requires g t c κs within =
     let here = read_at c.args.code.now c.args.at c.args.instr.now (FindAtom c.in-FindAtom.atom c.in-FindAtom.membrane c.in-FindAtom.functor) c.requires.at c.in-FindAtom.is in
     let ahead = atom_ahead (length c.args.set.now.atoms) (length c.args.set.now.membranes) (length c.args.set.now.parts) (length c.args.set.now.integers) c.in-FindAtom.atom c.in-FindAtom.membrane c.in-FindAtom.functor (drop c.args.at c.args.code.now) (drop (c.args.at + 1) c.args.code.now) (drop_get c.args.at c.args.code.now (FindAtom c.in-FindAtom.atom c.in-FindAtom.membrane c.in-FindAtom.functor) here) c.requires.order in
-    (search rules, (search rules, (search rules, (search rules, (c.requires.valid, (c.requires.unmarked, (c.requires.held, (here ∙ ap (λ x. Some (FindAtom x c.in-FindAtom.membrane c.in-FindAtom.functor)) ahead.0.0, (c.at-place.ensures, (c.requires.order, c.requires.rest))))))))))
+    (search rules, (search rules, (search rules, (search rules, (c.requires.valid, (c.requires.unmarked, (c.requires.held, (here ∙ ap (λ x. Some (FindAtom x c.in-FindAtom.membrane c.in-FindAtom.functor)) ahead.0.0, (c.at-place.ensures, (c.requires.order, (c.requires.rest, c.requires.unlisted)))))))))))
 
 pub choose_membrane-search_home-requires : goal.choose_membrane-search_home-requires
 choose_membrane-search_home-requires g t c κs within =
@@ -302,7 +305,7 @@ choose_membrane-search_home-requires g t c κs within =
     let ahead = membrane_ahead (length c.args.set.now.atoms) (length c.args.set.now.membranes) (length c.args.set.now.parts) (length c.args.set.now.integers) c.in-AnyMem.membrane c.in-AnyMem.inside (drop c.args.at c.args.code.now) (drop (c.args.at + 1) c.args.code.now)
     (drop_get c.args.at c.args.code.now (AnyMem c.in-AnyMem.membrane c.in-AnyMem.inside) here) c.requires.order in
     let there = here ∙ ap (λ x. Some (AnyMem x c.in-AnyMem.inside)) ahead.0.0 in
-    (search rules, (search rules, (search rules, (search rules, (c.requires.valid, (c.requires.unmarked, (c.requires.held, (there, (c.at-place.ensures, ((let l = c.in-Some.ensures.set in let n = c.len-atoms.ensures in omega (arith, l, n)), (subst (λ n. HangsBy c.args.code.now (c.args.at + 1) n c.in-Some.port) c.len-membranes.ensures c.in-Some.ensures.hangs, (c.requires.order, c.requires.rest))))))))))))
+    (search rules, (search rules, (search rules, (search rules, (c.requires.valid, (c.requires.unmarked, (c.requires.held, (there, (c.at-place.ensures, ((let l = c.in-Some.ensures.set in let n = c.len-atoms.ensures in omega (arith, l, n)), (subst (λ n. HangsBy c.args.code.now (c.args.at + 1) n c.in-Some.port) c.len-membranes.ensures c.in-Some.ensures.hangs, (c.requires.order, (c.requires.rest, c.requires.unlisted)))))))))))))
 
 pub choose_membrane-try_membranes-requires : goal.choose_membrane-try_membranes-requires
 choose_membrane-try_membranes-requires g t c κs within =
@@ -310,7 +313,7 @@ choose_membrane-try_membranes-requires g t c κs within =
     let ahead = membrane_ahead (length c.args.set.now.atoms) (length c.args.set.now.membranes) (length c.args.set.now.parts) (length c.args.set.now.integers) c.in-AnyMem.membrane c.in-AnyMem.inside (drop c.args.at c.args.code.now) (drop (c.args.at + 1) c.args.code.now)
     (drop_get c.args.at c.args.code.now (AnyMem c.in-AnyMem.membrane c.in-AnyMem.inside) here) c.requires.order in
     let there = here ∙ ap (λ x. Some (AnyMem x c.in-AnyMem.inside)) ahead.0.0 in
-    (search rules, (search rules, (search rules, (search rules, (c.requires.valid, (c.requires.unmarked, (c.requires.held, (there, (c.at-place.ensures, (c.requires.order, c.requires.rest))))))))))
+    (search rules, (search rules, (search rules, (search rules, (c.requires.valid, (c.requires.unmarked, (c.requires.held, (there, (c.at-place.ensures, (c.requires.order, (c.requires.rest, c.requires.unlisted)))))))))))
 
 pub choose_membrane-overflow_add-at : goal.choose_membrane-overflow_add-at
 choose_membrane-overflow_add-at g t c =
@@ -322,16 +325,16 @@ choose_membrane-overflow_add-at g t c =
 pub search_atoms-try_atom-requires : goal.search_atoms-try_atom-requires
 search_atoms-try_atom-requires g t c κs within =
     let there = subst (λ o. IfSome o (λ a. (functor_of (g.S.LinkStore.heap c.args.store.now) (g.S.LinkStore.atom_id a) ≡ Some c.args.functor) × (home_of (g.S.LinkStore.heap c.args.store.now) (g.S.LinkStore.atom_id a) ≡ Some (g.S.LinkStore.mem_id c.args.place)))) c.in-Some.is c.loop-candidate.invariant.there in
-    (search rules, (search rules, (search rules, (search rules, (subst (λ h. Valid h) (sym c.loop-candidate.invariant.same) c.requires.valid, (subst (λ h. Unmarked h) (sym c.loop-candidate.invariant.same) c.requires.unmarked, (subst (λ k. AreHeldWhole g.S.LinkStore.atom_id g.S.LinkStore.mem_id (g.S.LinkStore.heap c.loop-candidate.store) k) (sym c.loop-candidate.invariant.set) (subst (λ h. AreHeldWhole g.S.LinkStore.atom_id g.S.LinkStore.mem_id h c.args.set.now) (sym c.loop-candidate.invariant.same) c.requires.held), ((c.args.inside, c.args.functor, subst (λ k. slice_get c.args.code.now c.args.at ≡ Some (FindAtom (length k.atoms) c.args.inside c.args.functor)) (sym c.loop-candidate.invariant.set) c.requires.at, subst (λ (h : Heap). functor_of h (g.S.LinkStore.atom_id c.in-Some.atom) ≡ Some c.args.functor) (sym c.loop-candidate.invariant.same) there.0), (subst (λ k. HeadInOrder (length k.atoms) (length k.membranes) (length k.parts) (length k.integers) (drop c.args.at c.args.code.now)) (sym c.loop-candidate.invariant.set) c.requires.order, c.requires.rest)))))))))
+    (search rules, (search rules, (search rules, (search rules, (subst (λ h. Valid h) (sym c.loop-candidate.invariant.same) c.requires.valid, (subst (λ h. Unmarked h) (sym c.loop-candidate.invariant.same) c.requires.unmarked, (subst (λ k. AreHeldWhole g.S.LinkStore.atom_id g.S.LinkStore.mem_id (g.S.LinkStore.heap c.loop-candidate.store) k) (sym c.loop-candidate.invariant.set) (subst (λ h. AreHeldWhole g.S.LinkStore.atom_id g.S.LinkStore.mem_id h c.args.set.now) (sym c.loop-candidate.invariant.same) c.requires.held), ((c.args.inside, c.args.functor, subst (λ k. slice_get c.args.code.now c.args.at ≡ Some (FindAtom (length k.atoms) c.args.inside c.args.functor)) (sym c.loop-candidate.invariant.set) c.requires.at, subst (λ (h : Heap). functor_of h (g.S.LinkStore.atom_id c.in-Some.atom) ≡ Some c.args.functor) (sym c.loop-candidate.invariant.same) there.0), (subst (λ k. HeadInOrder (length k.atoms) (length k.membranes) (length k.parts) (length k.integers) (drop c.args.at c.args.code.now)) (sym c.loop-candidate.invariant.set) c.requires.order, (c.requires.rest, ap (λ k. k.listed) c.loop-candidate.invariant.set ∙ c.requires.unlisted))))))))))
 
 pub try_membranes-try_membrane-requires : goal.try_membranes-try_membrane-requires
 try_membranes-try_membrane-requires g t c κs within =
     let there = subst (λ o. IfSome o (λ m. parent_of (g.S.LinkStore.heap c.args.store.now) (g.S.LinkStore.mem_id m) ≡ Some (g.S.LinkStore.mem_id c.args.place))) c.in-Some.is c.loop-candidate.invariant.there in
-    (search rules, (search rules, (search rules, (search rules, (subst (λ h. Valid h) (sym c.loop-candidate.invariant.same) c.requires.valid, (subst (λ h. Unmarked h) (sym c.loop-candidate.invariant.same) c.requires.unmarked, (subst (λ k. AreHeldWhole g.S.LinkStore.atom_id g.S.LinkStore.mem_id (g.S.LinkStore.heap c.loop-candidate.store) k) (sym c.loop-candidate.invariant.set) (subst (λ h. AreHeldWhole g.S.LinkStore.atom_id g.S.LinkStore.mem_id h c.args.set.now) (sym c.loop-candidate.invariant.same) c.requires.held), ((c.args.inside, g.S.LinkStore.mem_id c.args.place, subst (λ k. slice_get c.args.code.now c.args.at ≡ Some (AnyMem (length k.membranes) c.args.inside)) (sym c.loop-candidate.invariant.set) c.requires.at, subst (λ (h : Heap). parent_of h (g.S.LinkStore.mem_id c.in-Some.membrane) ≡ Some (g.S.LinkStore.mem_id c.args.place)) (sym c.loop-candidate.invariant.same) there), (subst (λ k. HeadInOrder (length k.atoms) (length k.membranes) (length k.parts) (length k.integers) (drop c.args.at c.args.code.now)) (sym c.loop-candidate.invariant.set) c.requires.order, c.requires.rest)))))))))
+    (search rules, (search rules, (search rules, (search rules, (subst (λ h. Valid h) (sym c.loop-candidate.invariant.same) c.requires.valid, (subst (λ h. Unmarked h) (sym c.loop-candidate.invariant.same) c.requires.unmarked, (subst (λ k. AreHeldWhole g.S.LinkStore.atom_id g.S.LinkStore.mem_id (g.S.LinkStore.heap c.loop-candidate.store) k) (sym c.loop-candidate.invariant.set) (subst (λ h. AreHeldWhole g.S.LinkStore.atom_id g.S.LinkStore.mem_id h c.args.set.now) (sym c.loop-candidate.invariant.same) c.requires.held), ((c.args.inside, g.S.LinkStore.mem_id c.args.place, subst (λ k. slice_get c.args.code.now c.args.at ≡ Some (AnyMem (length k.membranes) c.args.inside)) (sym c.loop-candidate.invariant.set) c.requires.at, subst (λ (h : Heap). parent_of h (g.S.LinkStore.mem_id c.in-Some.membrane) ≡ Some (g.S.LinkStore.mem_id c.args.place)) (sym c.loop-candidate.invariant.same) there), (subst (λ k. HeadInOrder (length k.atoms) (length k.membranes) (length k.parts) (length k.integers) (drop c.args.at c.args.code.now)) (sym c.loop-candidate.invariant.set) c.requires.order, (c.requires.rest, ap (λ k. k.listed) c.loop-candidate.invariant.set ∙ c.requires.unlisted))))))))))
 
 pub search_home-try_membrane-requires : goal.search_home-try_membrane-requires
 search_home-try_membrane-requires g t c κs within =
-    (search rules, (search rules, (search rules, (search rules, (c.requires.valid, (c.requires.unmarked, (c.requires.held, ((c.args.inside, g.S.LinkStore.mem_id c.args.place, c.requires.at, c.in-Some.ensures.parent), (c.requires.order, c.requires.rest)))))))))
+    (search rules, (search rules, (search rules, (search rules, (c.requires.valid, (c.requires.unmarked, (c.requires.held, ((c.args.inside, g.S.LinkStore.mem_id c.args.place, c.requires.at, c.in-Some.ensures.parent), (c.requires.order, (c.requires.rest, c.requires.unlisted))))))))))
 
 pub try_atom-search-requires : goal.try_atom-search-requires
 try_atom-search-requires g t c κs within =

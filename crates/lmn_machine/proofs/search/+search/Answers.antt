@@ -16,6 +16,7 @@ use Rattle.lmn_machine_registers.specs.declared.stack.TheConstants.{ROOM}
 use Rattle.lmn_machine.specs.Jumping.{Lasted, with_atom, with_membrane}
 use Rattle.lmn_machine.proofs.Differing.{each_holds_up_to, passed_up_to}
 use Rattle.lmn_machine.proofs.Trying.{given_up, lasted, lasted_by, passed_lasted}
+use Rattle.lmn_machine.proofs.Listing.{held_forgetting, lasted_listing, listing}
 use Rattle.lmn_machine.proofs.Telling.{atoms_chosen, membranes_chosen}
 use Rattle.lmn_machine.proofs.Stepping.{Passed, extends_itself, extends_on, passed_one, failed, passed_all}
 use Rattle.lmn_machine.proofs.Choosing.{atoms_gone, AtomsLeft, MembranesLeft, extends_atom, extends_membrane, atoms_first, atoms_next, atoms_none, atoms_found, membranes_first, membranes_next, membranes_none, membranes_found, held_atom, held_membrane}
@@ -26,15 +27,15 @@ use Rattle.std.proofs.lemmas.List.{length_push}
 
 pub begin-choose_atom-requires : goal.begin-choose_atom-requires
 begin-choose_atom-requires g t c κs within =
-    (search rules, (search rules, (search rules, (search rules, (c.requires.valid, (c.requires.unmarked, (c.requires.held, (c.at-first.ensures, (subst ChoosesAtoms (sym c.in-FindAtom.is) tt, c.requires.order)))))))))
+    (search rules, (search rules, (search rules, (search rules, (c.requires.valid, (c.requires.unmarked, (c.requires.held, (c.at-first.ensures, (subst ChoosesAtoms (sym c.in-FindAtom.is) tt, (c.requires.order, c.requires.unlisted))))))))))
 
 pub choose_atom_apart-choose_atom-requires : goal.choose_atom_apart-choose_atom-requires
 choose_atom_apart-choose_atom-requires g t c κs within =
-    (search rules, (search rules, (search rules, (search rules, (c.requires.valid, (c.requires.unmarked, (c.requires.held, (c.requires.at, (c.requires.choice, c.requires.order)))))))))
+    (search rules, (search rules, (search rules, (search rules, (c.requires.valid, (c.requires.unmarked, (c.requires.held, (c.requires.at, (c.requires.choice, (c.requires.order, c.requires.unlisted))))))))))
 
 pub choose_membrane_apart-choose_membrane-requires : goal.choose_membrane_apart-choose_membrane-requires
 choose_membrane_apart-choose_membrane-requires g t c κs within =
-    (search rules, (search rules, (search rules, (search rules, (c.requires.valid, (c.requires.unmarked, (c.requires.held, (c.requires.at, (c.requires.choice, c.requires.order)))))))))
+    (search rules, (search rules, (search rules, (search rules, (c.requires.valid, (c.requires.unmarked, (c.requires.held, (c.requires.at, (c.requires.choice, (c.requires.order, c.requires.unlisted))))))))))
 
 pub search_apart-search-requires : goal.search_apart-search-requires
 search_apart-search-requires g t c κs within =
@@ -58,13 +59,17 @@ search-choose_atom_apart-requires g t c κs within = (
           (
             subst (λ h. Unmarked h) (sym (c.in-ChoosesAtom.ensures.same ∙ c.loop-i.invariant.same)) c.requires.unmarked,
             (
-              subst (λ k. AreHeldWhole g.S.LinkStore.atom_id g.S.LinkStore.mem_id (g.S.LinkStore.heap c.step.new.store) k) (sym c.in-ChoosesAtom.ensures.stepped.0)
-                  (subst (λ h. AreHeldWhole g.S.LinkStore.atom_id g.S.LinkStore.mem_id h c.loop-i.set) (sym (c.in-ChoosesAtom.ensures.same ∙ c.loop-i.invariant.same)) c.loop-i.invariant.passed.held),
+              held_forgetting g.S.LinkStore.atom_id g.S.LinkStore.mem_id (g.S.LinkStore.heap c.step.new.store) c.step.new.set c.forget.new.self c.forget.ensures
+                  (subst (λ k. AreHeldWhole g.S.LinkStore.atom_id g.S.LinkStore.mem_id (g.S.LinkStore.heap c.step.new.store) k) (sym c.in-ChoosesAtom.ensures.stepped.0)
+                  (subst (λ h. AreHeldWhole g.S.LinkStore.atom_id g.S.LinkStore.mem_id h c.loop-i.set) (sym (c.in-ChoosesAtom.ensures.same ∙ c.loop-i.invariant.same)) c.loop-i.invariant.passed.held)),
               (
                 c.at-instr.ensures,
                 (
                   c.in-ChoosesAtom.ensures.stepped.1,
-                  subst (λ k. HeadInOrder (length k.atoms) (length k.membranes) (length k.parts) (length k.integers) (drop c.loop-i.i c.args.code.now)) (sym c.in-ChoosesAtom.ensures.stepped.0) c.loop-i.invariant.passed.order,
+                  (
+                    subst (λ k. HeadInOrder (length k.atoms) (length k.membranes) (length k.parts) (length k.integers) (drop c.loop-i.i c.args.code.now)) (sym c.in-ChoosesAtom.ensures.stepped.0) c.loop-i.invariant.passed.order,
+                    c.forget.ensures,
+                  ),
                 ),
               ),
             ),
@@ -89,13 +94,17 @@ search-choose_membrane_apart-requires g t c κs within = (
           (
             subst (λ h. Unmarked h) (sym (c.in-ChoosesMembrane.ensures.same ∙ c.loop-i.invariant.same)) c.requires.unmarked,
             (
-              subst (λ k. AreHeldWhole g.S.LinkStore.atom_id g.S.LinkStore.mem_id (g.S.LinkStore.heap c.step.new.store) k) (sym c.in-ChoosesMembrane.ensures.stepped.0)
-                  (subst (λ h. AreHeldWhole g.S.LinkStore.atom_id g.S.LinkStore.mem_id h c.loop-i.set) (sym (c.in-ChoosesMembrane.ensures.same ∙ c.loop-i.invariant.same)) c.loop-i.invariant.passed.held),
+              held_forgetting g.S.LinkStore.atom_id g.S.LinkStore.mem_id (g.S.LinkStore.heap c.step.new.store) c.step.new.set c.forget-in-ChoosesMembrane.new.self c.forget-in-ChoosesMembrane.ensures
+                  (subst (λ k. AreHeldWhole g.S.LinkStore.atom_id g.S.LinkStore.mem_id (g.S.LinkStore.heap c.step.new.store) k) (sym c.in-ChoosesMembrane.ensures.stepped.0)
+                  (subst (λ h. AreHeldWhole g.S.LinkStore.atom_id g.S.LinkStore.mem_id h c.loop-i.set) (sym (c.in-ChoosesMembrane.ensures.same ∙ c.loop-i.invariant.same)) c.loop-i.invariant.passed.held)),
               (
                 c.at-instr.ensures,
                 (
                   c.in-ChoosesMembrane.ensures.stepped.1,
-                  subst (λ k. HeadInOrder (length k.atoms) (length k.membranes) (length k.parts) (length k.integers) (drop c.loop-i.i c.args.code.now)) (sym c.in-ChoosesMembrane.ensures.stepped.0) c.loop-i.invariant.passed.order,
+                  (
+                    subst (λ k. HeadInOrder (length k.atoms) (length k.membranes) (length k.parts) (length k.integers) (drop c.loop-i.i c.args.code.now)) (sym c.in-ChoosesMembrane.ensures.stepped.0) c.loop-i.invariant.passed.order,
+                    c.forget-in-ChoosesMembrane.ensures,
+                  ),
                 ),
               ),
             ),
@@ -111,14 +120,16 @@ search-returns-in-ChoosesAtom-clause-searched g t c =
     passed_lasted g.S.LinkStore.atom_id g.S.LinkStore.mem_id (g.S.LinkStore.heap c.args.store.now) _ c.args.set.now c.loop-i.set c.choose_atom_apart.new.set (drop c.args.at c.args.code.now) (drop c.loop-i.i c.args.code.now)
     c.choose_atom_apart.result c.loop-i.invariant.passed
     (subst (λ k. Lasted c.choose_atom_apart.new.patience.left g.S.LinkStore.atom_id g.S.LinkStore.mem_id (g.S.LinkStore.heap c.args.store.now) k c.choose_atom_apart.new.set c.choose_atom_apart.result (drop c.loop-i.i c.args.code.now)) c.in-ChoosesAtom.ensures.stepped.0
-    (subst (λ h. Lasted c.choose_atom_apart.new.patience.left g.S.LinkStore.atom_id g.S.LinkStore.mem_id h c.step.new.set c.choose_atom_apart.new.set c.choose_atom_apart.result (drop c.loop-i.i c.args.code.now)) (c.in-ChoosesAtom.ensures.same ∙ c.loop-i.invariant.same) c.choose_atom_apart.ensures.searched))
+    (lasted_listing g.S.LinkStore.atom_id g.S.LinkStore.mem_id (g.S.LinkStore.heap c.args.store.now) c.step.new.set c.forget.new.self _ c.choose_atom_apart.new.set c.choose_atom_apart.result (drop c.loop-i.i c.args.code.now)
+    (subst (λ h. Lasted c.choose_atom_apart.new.patience.left g.S.LinkStore.atom_id g.S.LinkStore.mem_id h (listing c.step.new.set c.forget.new.self) c.choose_atom_apart.new.set c.choose_atom_apart.result (drop c.loop-i.i c.args.code.now)) (c.in-ChoosesAtom.ensures.same ∙ c.loop-i.invariant.same) c.choose_atom_apart.ensures.searched)))
 
 pub search-returns-in-ChoosesMembrane-clause-searched : goal.search-returns-in-ChoosesMembrane-clause-searched
 search-returns-in-ChoosesMembrane-clause-searched g t c =
     passed_lasted g.S.LinkStore.atom_id g.S.LinkStore.mem_id (g.S.LinkStore.heap c.args.store.now) _ c.args.set.now c.loop-i.set c.choose_membrane_apart.new.set (drop c.args.at c.args.code.now) (drop c.loop-i.i c.args.code.now)
     c.choose_membrane_apart.result c.loop-i.invariant.passed
     (subst (λ k. Lasted c.choose_membrane_apart.new.patience.left g.S.LinkStore.atom_id g.S.LinkStore.mem_id (g.S.LinkStore.heap c.args.store.now) k c.choose_membrane_apart.new.set c.choose_membrane_apart.result (drop c.loop-i.i c.args.code.now)) c.in-ChoosesMembrane.ensures.stepped.0
-    (subst (λ h. Lasted c.choose_membrane_apart.new.patience.left g.S.LinkStore.atom_id g.S.LinkStore.mem_id h c.step.new.set c.choose_membrane_apart.new.set c.choose_membrane_apart.result (drop c.loop-i.i c.args.code.now)) (c.in-ChoosesMembrane.ensures.same ∙ c.loop-i.invariant.same) c.choose_membrane_apart.ensures.searched))
+    (lasted_listing g.S.LinkStore.atom_id g.S.LinkStore.mem_id (g.S.LinkStore.heap c.args.store.now) c.step.new.set c.forget-in-ChoosesMembrane.new.self _ c.choose_membrane_apart.new.set c.choose_membrane_apart.result (drop c.loop-i.i c.args.code.now)
+    (subst (λ h. Lasted c.choose_membrane_apart.new.patience.left g.S.LinkStore.atom_id g.S.LinkStore.mem_id h (listing c.step.new.set c.forget-in-ChoosesMembrane.new.self) c.choose_membrane_apart.new.set c.choose_membrane_apart.result (drop c.loop-i.i c.args.code.now)) (c.in-ChoosesMembrane.ensures.same ∙ c.loop-i.invariant.same) c.choose_membrane_apart.ensures.searched)))
 
 pub search-returns-in-Fails-clause-searched : goal.search-returns-in-Fails-clause-searched
 search-returns-in-Fails-clause-searched g t c =
@@ -149,7 +160,7 @@ choose_atom-search_atoms-requires g t c κs within =
     let ahead = atom_ahead (length c.args.set.now.atoms) (length c.args.set.now.membranes) (length c.args.set.now.parts) (length c.args.set.now.integers) c.in-FindAtom.atom c.in-FindAtom.membrane c.in-FindAtom.functor (drop c.args.at c.args.code.now) (drop (c.args.at + 1) c.args.code.now)
     (drop_get c.args.at c.args.code.now (FindAtom c.in-FindAtom.atom c.in-FindAtom.membrane c.in-FindAtom.functor) here) c.requires.order in
     let there = here ∙ ap (λ x. Some (FindAtom x c.in-FindAtom.membrane c.in-FindAtom.functor)) ahead.0.0 in
-    (search rules, (search rules, (search rules, (search rules, (c.requires.valid, (c.requires.unmarked, (c.requires.held, ((c.in-FindAtom.membrane, there, c.at-place.ensures), (c.in-Some.ensures.functor, (c.in-Some.ensures.home, (c.in-Some.ensures.list, c.requires.order)))))))))))
+    (search rules, (search rules, (search rules, (search rules, (c.requires.valid, (c.requires.unmarked, (c.requires.held, ((c.in-FindAtom.membrane, there, c.at-place.ensures), (c.in-Some.ensures.functor, (c.in-Some.ensures.home, (c.in-Some.ensures.list, (c.requires.order, c.requires.unlisted))))))))))))
 
 pub choose_atom-returns-in-None-clause-searched : goal.choose_atom-returns-in-None-clause-searched
 choose_atom-returns-in-None-clause-searched g t c =
@@ -166,7 +177,7 @@ choose_membrane-search_home-requires g t c κs within =
     let ahead = membrane_ahead (length c.args.set.now.atoms) (length c.args.set.now.membranes) (length c.args.set.now.parts) (length c.args.set.now.integers) c.in-AnyMem.membrane c.in-AnyMem.inside (drop c.args.at c.args.code.now) (drop (c.args.at + 1) c.args.code.now)
     (drop_get c.args.at c.args.code.now (AnyMem c.in-AnyMem.membrane c.in-AnyMem.inside) here) c.requires.order in
     let there = here ∙ ap (λ x. Some (AnyMem x c.in-AnyMem.inside)) ahead.0.0 in
-    (search rules, (search rules, (search rules, (search rules, (c.requires.valid, (c.requires.unmarked, (c.requires.held, ((c.in-AnyMem.inside, there, c.at-place.ensures), (c.in-Some.ensures.there, (subst (λ n. IsGuest g.S.LinkStore.atom_id g.S.LinkStore.mem_id (g.S.LinkStore.heap c.args.store.now) c.args.set.now (drop (c.args.at + 1) c.args.code.now) n (g.S.LinkStore.atom_id c.in-Some.guest)) c.len-register.ensures c.in-Some.ensures.guest, c.requires.order))))))))))
+    (search rules, (search rules, (search rules, (search rules, (c.requires.valid, (c.requires.unmarked, (c.requires.held, ((c.in-AnyMem.inside, there, c.at-place.ensures), (c.in-Some.ensures.there, (subst (λ n. IsGuest g.S.LinkStore.atom_id g.S.LinkStore.mem_id (g.S.LinkStore.heap c.args.store.now) c.args.set.now (drop (c.args.at + 1) c.args.code.now) n (g.S.LinkStore.atom_id c.in-Some.guest)) c.len-register.ensures c.in-Some.ensures.guest, (c.requires.order, c.requires.unlisted)))))))))))
 
 pub choose_membrane-search_membranes-requires : goal.choose_membrane-search_membranes-requires
 choose_membrane-search_membranes-requires g t c κs within =
@@ -174,7 +185,7 @@ choose_membrane-search_membranes-requires g t c κs within =
     let ahead = membrane_ahead (length c.args.set.now.atoms) (length c.args.set.now.membranes) (length c.args.set.now.parts) (length c.args.set.now.integers) c.in-AnyMem.membrane c.in-AnyMem.inside (drop c.args.at c.args.code.now) (drop (c.args.at + 1) c.args.code.now)
     (drop_get c.args.at c.args.code.now (AnyMem c.in-AnyMem.membrane c.in-AnyMem.inside) here) c.requires.order in
     let there = here ∙ ap (λ x. Some (AnyMem x c.in-AnyMem.inside)) ahead.0.0 in
-    (search rules, (search rules, (search rules, (search rules, (c.requires.valid, (c.requires.unmarked, (c.requires.held, ((c.in-AnyMem.inside, there, c.at-place.ensures), c.requires.order))))))))
+    (search rules, (search rules, (search rules, (search rules, (c.requires.valid, (c.requires.unmarked, (c.requires.held, ((c.in-AnyMem.inside, there, c.at-place.ensures), (c.requires.order, c.requires.unlisted)))))))))
 
 pub choose_membrane-overflow_add-at : goal.choose_membrane-overflow_add-at
 choose_membrane-overflow_add-at g t c =
@@ -222,7 +233,7 @@ search_atoms-further_candidate-candidate-requires-clause-held g t c =
     let none = (atom_ahead (length c.args.set.now.atoms) (length c.args.set.now.membranes) (length c.args.set.now.parts) (length c.args.set.now.integers) (length c.args.set.now.atoms) c.requires.at.0 c.args.functor (drop c.args.at c.args.code.now) (drop (c.args.at + 1) c.args.code.now)
     (drop_get c.args.at c.args.code.now (FindAtom (length c.args.set.now.atoms) c.requires.at.0 c.args.functor) c.requires.at.1) c.requires.order).0.3 in
     let taken = taken_back c.args.set.now c.search.new.set c.keep.new.self c.len-atoms.result c.len-membranes.result 0 c.len-integers.result c.len-atoms.ensures c.len-membranes.ensures (sym none) c.len-integers.ensures
-    (extends_on g.S.LinkStore.atom_id g.S.LinkStore.mem_id (g.S.LinkStore.heap c.args.store.now) c.args.set.now (with_atom c.args.set.now c.in-Some.atom) c.search.new.set (extends_atom g.S.LinkStore.atom_id g.S.LinkStore.mem_id (g.S.LinkStore.heap c.args.store.now) c.args.set.now c.in-Some.atom) searched.extends) c.keep.ensures in
+    (extends_on g.S.LinkStore.atom_id g.S.LinkStore.mem_id (g.S.LinkStore.heap c.args.store.now) c.args.set.now (with_atom c.args.set.now c.in-Some.atom) c.search.new.set (extends_atom g.S.LinkStore.atom_id g.S.LinkStore.mem_id (g.S.LinkStore.heap c.args.store.now) c.args.set.now c.in-Some.atom) searched.extends) c.requires.unlisted c.keep.ensures in
     subst (λ k. AreHeldWhole g.S.LinkStore.atom_id g.S.LinkStore.mem_id (g.S.LinkStore.heap c.search.new.store) k) (sym taken) (subst (λ h. AreHeldWhole g.S.LinkStore.atom_id g.S.LinkStore.mem_id h c.args.set.now) (sym same) c.requires.held)
 
 pub search_atoms-loop-candidate-smaller : goal.search_atoms-loop-candidate-smaller
@@ -243,7 +254,7 @@ search_atoms-loop-candidate-preserved g t c =
     let none = (atom_ahead (length c.args.set.now.atoms) (length c.args.set.now.membranes) (length c.args.set.now.parts) (length c.args.set.now.integers) (length c.args.set.now.atoms) c.requires.at.0 c.args.functor (drop c.args.at c.args.code.now) (drop (c.args.at + 1) c.args.code.now)
     (drop_get c.args.at c.args.code.now (FindAtom (length c.args.set.now.atoms) c.requires.at.0 c.args.functor) c.requires.at.1) c.requires.order).0.3 in
     let taken = taken_back c.args.set.now c.search.new.set c.keep.new.self c.len-atoms.result c.len-membranes.result 0 c.len-integers.result c.len-atoms.ensures c.len-membranes.ensures (sym none) c.len-integers.ensures
-    (extends_on g.S.LinkStore.atom_id g.S.LinkStore.mem_id (g.S.LinkStore.heap c.args.store.now) c.args.set.now (with_atom c.args.set.now c.in-Some.atom) c.search.new.set (extends_atom g.S.LinkStore.atom_id g.S.LinkStore.mem_id (g.S.LinkStore.heap c.args.store.now) c.args.set.now c.in-Some.atom) searched.extends) c.keep.ensures in
+    (extends_on g.S.LinkStore.atom_id g.S.LinkStore.mem_id (g.S.LinkStore.heap c.args.store.now) c.args.set.now (with_atom c.args.set.now c.in-Some.atom) c.search.new.set (extends_atom g.S.LinkStore.atom_id g.S.LinkStore.mem_id (g.S.LinkStore.heap c.args.store.now) c.args.set.now c.in-Some.atom) searched.extends) c.requires.unlisted c.keep.ensures in
     let there = subst (λ o. IfSome o (λ a. (functor_of (g.S.LinkStore.heap c.args.store.now) (g.S.LinkStore.atom_id a) ≡ Some c.args.functor) × (home_of (g.S.LinkStore.heap c.args.store.now) (g.S.LinkStore.atom_id a) ≡ Some (g.S.LinkStore.mem_id c.args.place)))) c.in-Some.is c.loop-candidate.invariant.there in
     let next = next_same g.S.LinkStore.atom_id (g.S.LinkStore.heap c.args.store.now) (g.S.LinkStore.heap c.search.new.store) c.in-Some.atom c.next_with-next.result same c.next_with-next.ensures.list c.next_with-next.ensures.functor c.next_with-next.ensures.home in
     let left = subst (λ o. AtomsLeft g.S.LinkStore.atom_id g.S.LinkStore.mem_id (g.S.LinkStore.heap c.args.store.now) c.args.set.now (drop c.args.at c.args.code.now) c.args.functor c.args.place o) c.in-Some.is c.loop-candidate.invariant.left in
@@ -366,7 +377,7 @@ search_home-begin-requires g t c κs within =
             search rules,
             (
               c.requires.valid,
-              (c.requires.unmarked, (held, (omega arith, subst (λ k. HeadInOrder (length k.atoms) (length k.membranes) (length k.parts) (length k.integers) (drop (c.args.at + 1) c.args.code.now)) (sym more) next))),
+              (c.requires.unmarked, (held, (omega arith, (subst (λ k. HeadInOrder (length k.atoms) (length k.membranes) (length k.parts) (length k.integers) (drop (c.args.at + 1) c.args.code.now)) (sym more) next, c.requires.unlisted)))),
             ),
           ),
         ),
@@ -389,7 +400,7 @@ search_home-returns-else-begin-clause-searched g t c =
     (only_home g.S.LinkStore.atom_id g.S.LinkStore.mem_id (g.S.LinkStore.heap c.args.store.now) c.args.set.now (drop c.args.at c.args.code.now) (drop (c.args.at + 1) c.args.code.now) c.requires.at.0 c.args.place (g.S.LinkStore.atom_id c.args.guest) c.home_within.result (drop_get c.args.at c.args.code.now (AnyMem (length c.args.set.now.membranes) c.requires.at.0) c.requires.at.1) c.requires.at.2 c.requires.guest c.home_within.ensures.only) in
     let searched = λ (l : 0 < c.begin.new.patience.left). subst (λ k. Searched g.S.LinkStore.atom_id g.S.LinkStore.mem_id (g.S.LinkStore.heap c.args.store.now) k c.begin.new.set false (drop (c.args.at + 1) c.args.code.now)) more (subst (λ b. Searched g.S.LinkStore.atom_id g.S.LinkStore.mem_id (g.S.LinkStore.heap c.args.store.now) (having_membranes c.args.set.now c.push.new.self) c.begin.new.set b (drop (c.args.at + 1) c.args.code.now)) c.if-begin.false (c.begin.ensures.searched.searched l)) in
     let taken = taken_back c.args.set.now c.begin.new.set c.keep.new.self c.len-atoms.result c.len-membranes.result c.len-parts.result c.len-integers.result c.len-atoms.ensures c.len-membranes.ensures c.len-parts.ensures c.len-integers.ensures
-    (extends_on g.S.LinkStore.atom_id g.S.LinkStore.mem_id (g.S.LinkStore.heap c.args.store.now) c.args.set.now (with_membrane c.args.set.now c.in-Some.membrane) c.begin.new.set (extends_membrane g.S.LinkStore.atom_id g.S.LinkStore.mem_id (g.S.LinkStore.heap c.args.store.now) c.args.set.now c.in-Some.membrane) (subst (λ k. Extends k c.begin.new.set) more c.begin.ensures.searched.extends)) c.keep.ensures in
+    (extends_on g.S.LinkStore.atom_id g.S.LinkStore.mem_id (g.S.LinkStore.heap c.args.store.now) c.args.set.now (with_membrane c.args.set.now c.in-Some.membrane) c.begin.new.set (extends_membrane g.S.LinkStore.atom_id g.S.LinkStore.mem_id (g.S.LinkStore.heap c.args.store.now) c.args.set.now c.in-Some.membrane) (subst (λ k. Extends k c.begin.new.set) more c.begin.ensures.searched.extends)) c.requires.unlisted c.keep.ensures in
     subst (λ k. Lasted c.begin.new.patience.left g.S.LinkStore.atom_id g.S.LinkStore.mem_id (g.S.LinkStore.heap c.args.store.now) c.args.set.now k false (drop c.args.at c.args.code.now)) (sym taken) (lasted_by g.S.LinkStore.atom_id g.S.LinkStore.mem_id (g.S.LinkStore.heap c.args.store.now) c.begin.new.patience.left c.args.set.now c.args.set.now (drop c.args.at c.args.code.now) c.requires.held (extends_itself g.S.LinkStore.atom_id g.S.LinkStore.mem_id (g.S.LinkStore.heap c.args.store.now) c.args.set.now) (λ l. only_fails g.S.LinkStore.atom_id g.S.LinkStore.mem_id (g.S.LinkStore.heap c.args.store.now) c.args.set.now c.begin.new.set (drop c.args.at c.args.code.now) (drop (c.args.at + 1) c.args.code.now) c.requires.at.0 c.in-Some.membrane (drop_get c.args.at c.args.code.now (AnyMem (length c.args.set.now.membranes) c.requires.at.0) c.requires.at.1) c.requires.held only (searched l)))
 
 pub search_home-returns-in-None-clause-searched : goal.search_home-returns-in-None-clause-searched
@@ -432,7 +443,7 @@ search_membranes-loop-candidate-preserved g t c =
     record {
       same = same;
       set = taken_back c.args.set.now c.begin.new.set c.keep.new.self c.len-atoms.result c.len-membranes.result c.len-parts.result c.len-integers.result c.len-atoms.ensures c.len-membranes.ensures c.len-parts.ensures c.len-integers.ensures
-          (extends_on g.S.LinkStore.atom_id g.S.LinkStore.mem_id (g.S.LinkStore.heap c.args.store.now) c.args.set.now (with_membrane c.args.set.now c.in-Some.membrane) c.begin.new.set (extends_membrane g.S.LinkStore.atom_id g.S.LinkStore.mem_id (g.S.LinkStore.heap c.args.store.now) c.args.set.now c.in-Some.membrane) searched.extends) c.keep.ensures;
+          (extends_on g.S.LinkStore.atom_id g.S.LinkStore.mem_id (g.S.LinkStore.heap c.args.store.now) c.args.set.now (with_membrane c.args.set.now c.in-Some.membrane) c.begin.new.set (extends_membrane g.S.LinkStore.atom_id g.S.LinkStore.mem_id (g.S.LinkStore.heap c.args.store.now) c.args.set.now c.in-Some.membrane) searched.extends) c.requires.unlisted c.keep.ensures;
       left = membranes_fit g.S.LinkStore.atom_id g.S.LinkStore.mem_id (g.S.LinkStore.heap c.args.store.now) c.args.set.now c.args.code.now (drop c.args.at c.args.code.now) (c.args.at + 1) c.requires.at.0 c.args.place c.asked-asked.result c.next_mem-next.result c.fitting_membrane-candidate-in-Some.result (drop_get c.args.at c.args.code.now (AnyMem (length c.args.set.now.membranes) c.requires.at.0) c.requires.at.1)
           (membranes_next g.S.LinkStore.atom_id g.S.LinkStore.mem_id (g.S.LinkStore.heap c.args.store.now) c.args.set.now c.begin.new.set (drop c.args.at c.args.code.now) (drop (c.args.at + 1) c.args.code.now) c.requires.at.0 c.args.place c.in-Some.membrane c.next_mem-next.result (drop_get c.args.at c.args.code.now (AnyMem (length c.args.set.now.membranes) c.requires.at.0) c.requires.at.1) left searched (next.0 (g.S.LinkStore.mem_id c.args.place) there)) asks fit;
       there = subst (λ (h : Heap). IfSome c.fitting_membrane-candidate-in-Some.result (λ m. parent_of h (g.S.LinkStore.mem_id m) ≡ Some (g.S.LinkStore.mem_id c.args.place))) same c.fitting_membrane-candidate-in-Some.ensures.parent;
@@ -468,7 +479,10 @@ search_membranes-begin-requires g t c κs within =
                   subst (λ h. AreHeldWhole g.S.LinkStore.atom_id g.S.LinkStore.mem_id h (having_membranes c.loop-candidate.set c.push.new.self)) (sym c.loop-candidate.invariant.same) held,
                   (
                     omega arith,
-                    subst (λ k. HeadInOrder (length k.atoms) (length k.membranes) (length k.parts) (length k.integers) (drop (c.args.at + 1) c.args.code.now)) (sym more) next,
+                    (
+                      subst (λ k. HeadInOrder (length k.atoms) (length k.membranes) (length k.parts) (length k.integers) (drop (c.args.at + 1) c.args.code.now)) (sym more) next,
+                      ap (λ k. k.listed) c.loop-candidate.invariant.set ∙ c.requires.unlisted,
+                    ),
                   ),
                 ),
               ),

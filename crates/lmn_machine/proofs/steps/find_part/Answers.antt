@@ -3,6 +3,7 @@ use Rattle.lmn_machine.specs.Searching.{ChoosesNone}
 use Rattle.lmn_machine.proofs.Telling.{told}
 use Rattle.lmn_machine.proofs.Stepping.{part_finding}
 use Rattle.lmn_machine.proofs.Lone.{unary_stepped, int_stepped}
+use Rattle.lmn_machine.proofs.Listing.{held_listing, listing, stepped_listing}
 use Rattle.lmn_machine.proofs.Contexts.{ground_stepped}
 use Rattle.lmn_machine.proofs.steps.find_part.Goals as goal
 
@@ -21,9 +22,16 @@ returns-in-IsUnary-clause-stepped g c =
 
 pub returns-in-IsGround-clause-stepped : goal.returns-in-IsGround-clause-stepped
 returns-in-IsGround-clause-stepped g c =
-    told g.S.LinkStore.atom_id g.S.LinkStore.mem_id (g.S.LinkStore.heap c.args.store.now) c.args.set.now c.set_part-in-IsGround.new.set c.set_part-in-IsGround.result c.outcome_of-in-IsGround.result c.args.instr.now (subst ChoosesNone (sym c.in-IsGround.is) tt) c.outcome_of-in-IsGround.ensures
-    (ground_stepped g.S.LinkStore.atom_id g.S.LinkStore.mem_id (g.S.LinkStore.heap c.args.store.now) c.requires.ready.valid.sound c.args.set.now c.set_part-in-IsGround.new.set c.set_part-in-IsGround.result c.args.instr.now _ _ _ _ _ c.whole_end-root.result c.in-IsGround.is c.requires.ready.order c.requires.ready.held
-    c.at-from-in-IsGround.ensures c.at-place-in-IsGround.ensures c.whole_end-root.ensures.end c.set_part-in-IsGround.ensures)
+    let h = g.S.LinkStore.heap c.args.store.now in
+    let list = c.whole_end-root.new.list in
+    told g.S.LinkStore.atom_id g.S.LinkStore.mem_id h c.args.set.now c.set_part-in-IsGround.new.set c.set_part-in-IsGround.result c.outcome_of-in-IsGround.result c.args.instr.now (subst ChoosesNone (sym c.in-IsGround.is) tt) c.outcome_of-in-IsGround.ensures
+    (stepped_listing g.S.LinkStore.atom_id g.S.LinkStore.mem_id h c.args.set.now list c.set_part-in-IsGround.new.set c.set_part-in-IsGround.result c.args.instr.now
+    (ground_stepped g.S.LinkStore.atom_id g.S.LinkStore.mem_id h c.requires.ready.valid.sound (listing c.args.set.now list) c.set_part-in-IsGround.new.set c.set_part-in-IsGround.result c.args.instr.now _ _ _ _ _ c.whole_end-root.result c.in-IsGround.is c.requires.ready.order
+    (held_listing g.S.LinkStore.atom_id g.S.LinkStore.mem_id h c.args.set.now list c.whole_end-root.ensures.listed c.requires.ready.held)
+    c.at-from-in-IsGround.ensures c.at-place-in-IsGround.ensures c.whole_end-root.ensures.end c.set_part-in-IsGround.ensures))
 
 pub returns-in_default-clause-stepped : goal.returns-in_default-clause-stepped
 returns-in_default-clause-stepped g c = absurd (part_finding c.args.instr.now c.requires.finds c.in_default.not-IsInt c.in_default.not-IsUnary c.in_default.not-IsGround)
+
+pub whole_end-root-requires-clause-listed : goal.whole_end-root-requires-clause-listed
+whole_end-root-requires-clause-listed g c = c.requires.ready.held.listed

@@ -1,7 +1,8 @@
 use Rattle.std.proofs.Common.{map, ◌∙◌, ap, arith, subst, sym}
 use Rattle.lmn_store_heap.specs.Heap.{IsAtom}
 use Rattle.lmn_ground.specs.Rests.{own_marked}
-use Rattle.lmn_machine.proofs.Owning.{ground_whole, whole_ground, taken_back_own, there_own, mem_own, port_own, clean_own_all}
+use Rattle.lmn_ground.proofs.ListedLaws.{listed_on}
+use Rattle.lmn_machine.proofs.Owning.{ground_whole, whole_ground, taken_back_own, back_own, there_own, mem_own, port_own, clean_own_all}
 use Rattle.lmn_machine.proofs.whole.is_whole.Goals as goal
 
 pub is_ground-whole-requires-clause-root : goal.is_ground-whole-requires-clause-root
@@ -32,3 +33,9 @@ pub returns-clause-same : goal.returns-clause-same
 returns-clause-same g c =
     taken_back_own (g.S.LinkStore.heap c.args.store.now) (g.S.LinkStore.heap c.mark_all.new.store) (g.S.LinkStore.heap c.mark_all-2.new.store) (map g.S.LinkStore.atom_id c.args.atoms.now) c.requires.unmarked c.mark_all.ensures
     (c.mark_all-2.ensures ∙ ap (λ s. own_marked 0 (map g.S.LinkStore.atom_id c.args.atoms.now) s) c.is_ground-whole.ensures.same)
+
+pub returns-clause-listed : goal.returns-clause-listed
+returns-clause-listed g c =
+    let h = g.S.LinkStore.heap c.args.store.now in
+    let k = g.S.LinkStore.heap c.mark_all.new.store in
+    listed_on g.S.LinkStore.atom_id k c.is_ground-whole.new.list h (λ a i. back_own h k (map g.S.LinkStore.atom_id c.args.atoms.now) 1 a c.requires.unmarked c.mark_all.ensures i) c.is_ground-whole.ensures.listed

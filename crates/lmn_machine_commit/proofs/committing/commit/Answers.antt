@@ -3,6 +3,7 @@ use Rattle.lmn_store_heap.specs.Heap.{Heap, mem_mark_of}
 use Rattle.lmn_solid_bodies.specs.Running.{DoesAll}
 use Rattle.lmn_machine_commit.specs.Committing.{Runs}
 use Rattle.lmn_schedule_sleep.specs.Quiet.{SameButMarks}
+use Rattle.lmn_ground.proofs.ListedLaws.{listed_kept}
 use Rattle.lmn_machine_commit.proofs.Frames.{made_awake}
 use Rattle.lmn_machine_commit.proofs.Making.{some_registers}
 use Rattle.lmn_machine_commit.proofs.Only.{others_awake}
@@ -51,6 +52,12 @@ run_all-requires-clause-runs g c =
     let r = some_registers g.S.LinkStore.atom_id g.S.LinkStore.mem_id c.args.set.now p.prepared.copied p.prepared.sizes p.before p.matched.valid p.matched_by in
     let runs = prepared_runs g.S.LinkStore.atom_id g.S.LinkStore.mem_id s c.args.set.now c.args.code.now p r.0 r.1 r.2 r.3 in
     (r.0, r.1, subst (Runs r.0 c.args.code.now) (sym (is_remarked s s1 (c.wake.ensures r.0 r.1).alike)) (runs_so (mem_mark_of s1) r.0 c.args.code.now s runs))
+
+pub run_all-requires-clause-listed : goal.run_all-requires-clause-listed
+run_all-requires-clause-listed g c =
+    let p = c.requires in
+    let some = some_registers g.S.LinkStore.atom_id g.S.LinkStore.mem_id c.args.set.now p.prepared.copied p.prepared.sizes p.before p.matched.valid p.matched_by in
+    listed_kept g.S.LinkStore.atom_id (g.S.LinkStore.heap c.args.store.now) c.args.set.now.listed (g.S.LinkStore.heap c.wake.new.store) (λ a i. (c.wake.ensures some.0 some.1).alike.atoms a) p.prepared.held.listed
 
 pub returns-clause-fires : goal.returns-clause-fires
 returns-clause-fires g c = λ p r u has rests.

@@ -1,8 +1,8 @@
-use Rattle.std.proofs.Common.{◌≡◌, Some, length, ap, w64, refl, sym, subst, ◌∙◌}
+use Rattle.std.proofs.Common.{◌≡◌, Some, length, ap, w64, sym, subst, ◌∙◌}
 use Rattle.std.proofs.lemmas.Result.{on_ok_weaker}
 use Rattle.std.proofs.lemmas.Int.{to_z-of_z}
 use Rattle.lmn_solid_bodies.specs.Running.{integer_functor}
-use Rattle.lmn_machine_commit.specs.Preparing.{CopiesNone, HasClosedRest, KeepsCount, MakesAtom}
+use Rattle.lmn_machine_commit.specs.Preparing.{CopiesNone, HasClosedRest, KeepsCount}
 use Rattle.lmn_machine_commit.proofs.Making.{new_atom_made, new_int_made, rest_made, nothing_made}
 use Rattle.lmn_machine_commit.proofs.Waiting.{makes_nothing}
 use Rattle.lmn_machine_commit.proofs.preparing.make.Goals as goal
@@ -32,13 +32,9 @@ returns-in-CopyCells-clause-ok g c = λ before. on_ok_weaker c.copy_rest.result
     (λ made. rest_made g.S.LinkStore.atom_id g.S.LinkStore.mem_id (g.S.LinkStore.heap c.args.store.now) (g.S.LinkStore.heap c.copy_rest.new.store) c.args.set.now before c.args.instr.now
     c.in-CopyCells.from c.in-CopyCells.to c.at-from.result c.requires.held c.copy_rest.ensures.makes c.in-CopyCells.is c.at-from.ensures made) c.copy_rest.ensures.ok
 
-pub returns-in-CopyCells-clause-trail : goal.returns-in-CopyCells-clause-trail
-returns-in-CopyCells-clause-trail g c = λ m. absurd (subst MakesAtom c.in-CopyCells.is m)
-
 pub returns-in_default : goal.returns-in_default
 returns-in_default g c = record {
   ok = λ before. nothing_made g.S.LinkStore.atom_id g.S.LinkStore.mem_id (g.S.LinkStore.heap c.args.store.now) c.args.set.now before c.args.instr.now c.requires.held (length c.args.set.now.integers) (length c.args.set.now.copies) c.requires.reads
       (record { no_atom = c.in_default.not-NewAtom; no_integer = c.in_default.not-NewInt; no_mem = λ m n e. subst KeepsCount e c.requires.keeps; no_copy = λ x y z e. subst CopiesNone e c.requires.copies; no_rule = λ m k e. subst KeepsCount e c.requires.keeps; no_rules = λ m n e. subst KeepsCount e c.requires.keeps; no_rest = c.in_default.not-CopyCells });
-  trail = λ m. refl;
   makes = makes_nothing (g.S.LinkStore.heap c.args.store.now);
 }

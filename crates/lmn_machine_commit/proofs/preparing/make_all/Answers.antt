@@ -38,7 +38,6 @@ loop-i-init g c =
       order = begun.1;
       within = c.first_made-first.ensures.within;
       counted = λ r m u e. sym (none_needed r (rules_in h) c.args.code.now c.first_made-first.result (g.S.LinkStore.mem_id m) c.first_made-first.ensures.none);
-      listed = λ part p b get. absurd (c.first_made-first.ensures.none b.0 _ b.3 b.4 tt);
     }
 
 pub make_next-requires-clause-at : goal.make_next-requires-clause-at
@@ -76,7 +75,6 @@ loop-i-preserved g c =
       order = in_order_next g.S.LinkStore.atom_id g.S.LinkStore.mem_id c.loop-i.set c.make_next.new.set c.at-instr.result.now (drop (c.loop-i.i + 1) c.args.code.now) made.atoms made.membranes made.grows.parts made.grows.integers made.copies order;
       within = (let before = c.loop-i-test.true in let few = c.last_made-last.ensures.within in omega (arith, before, few));
       counted = c.in_ok-counted.ensures.counted;
-      listed = c.in_ok-counted.ensures.listed;
     }
 
 pub returns-clause-ok : goal.returns-clause-ok

@@ -1,11 +1,8 @@
-use Rattle.std.proofs.Common.{◌≡◌, ◌+◌, take, Some, length, refl, sym, subst, arith}
-use Rattle.std.proofs.lemmas.Option.{slice_get_within}
-use Rattle.std.proofs.lemmas.Result.{on_ok_weaker}
-use Rattle.std.specs.Prelude.{slice_get}
-use Rattle.lmn_machine_commit.specs.Preparing.{AddsSo, CopiesNone, KeepsCount, MakesAtom}
+use Rattle.std.proofs.Common.{◌+◌, take, Some, length, refl, sym, subst}
+use Rattle.lmn_machine_commit.specs.Preparing.{AddsSo, KeepsCount}
 use Rattle.lmn_machine_commit.proofs.Codes.{take_get}
 use Rattle.lmn_machine_commit.proofs.Counting.{counted_kept, counted_new, keeps_count}
-use Rattle.lmn_machine_commit.proofs.Listing.{copies_none, lists_copy, lists_none, lists_on}
+use Rattle.lmn_machine_commit.proofs.Listing.{copies_none}
 use Rattle.lmn_machine_commit.proofs.Making.{copy_made, new_mem_made}
 use Rattle.lmn_machine_commit.proofs.preparing.make_next.Goals as goal
 
@@ -27,56 +24,24 @@ returns-in_ok-make_membrane-in-NewMem-clause-counted g c =
     counted_new g.S.LinkStore.atom_id g.S.LinkStore.mem_id (g.S.LinkStore.heap c.args.store.now) (g.S.LinkStore.heap c.make_membrane.new.store) c.args.set.now c.make_membrane.new.set (take c.args.at c.args.code.now) c.args.instr.now c.in-NewMem.membrane c.in-NewMem.inside (length c.args.set.now.integers) c.args.counted.register c.args.counted.count
     c.in-NewMem.is made c.requires.held c.requires.uses c.requires.reads (take (c.args.at + 1) c.args.code.now) (take_get c.args.at c.args.code.now c.args.instr.now c.requires.at) c.requires.counted
 
-pub copies_before-listed-requires : goal.copies_before-listed-requires
-copies_before-listed-requires g c = let low = slice_get_within c.args.code.now c.args.at _ c.requires.at in omega (arith, low)
-
 pub make_copy-requires-clause-part : goal.make_copy-requires-clause-part
 make_copy-requires-clause-part g c = c.requires.parts c.in-CopyGround.part c.at-root.result c.at-root.ensures
-
-pub make_copy-requires-clause-listed : goal.make_copy-requires-clause-listed
-make_copy-requires-clause-listed g c = λ t. c.requires.listed c.in-CopyGround.part c.at-root.result (c.copies_before-listed.ensures t) c.at-root.ensures
 
 pub returns-in_ok-make_copy-in-CopyGround-clause-ok : goal.returns-in_ok-make_copy-in-CopyGround-clause-ok
 returns-in_ok-make_copy-in-CopyGround-clause-ok g c =
     copy_made g.S.LinkStore.atom_id g.S.LinkStore.mem_id (g.S.LinkStore.heap c.args.store.now) (g.S.LinkStore.heap c.make_copy.new.store) c.args.set.now c.make_copy.new.set (take c.args.at c.args.code.now) c.args.instr.now
-    c.in-CopyGround.copy c.in-CopyGround.membrane c.in-CopyGround.part c.at-root.result c.requires.held c.in-CopyGround.is c.at-root.ensures c.in_ok-make_copy-in-CopyGround.ensures.ok (length c.args.set.now.integers) (length c.args.set.now.copies) refl c.requires.reads
-
-pub returns-in_ok-make_copy-in-CopyGround-clause-listed : goal.returns-in_ok-make_copy-in-CopyGround-clause-listed
-returns-in_ok-make_copy-in-CopyGround-clause-listed g c =
-    let made = copy_made g.S.LinkStore.atom_id g.S.LinkStore.mem_id (g.S.LinkStore.heap c.args.store.now) (g.S.LinkStore.heap c.make_copy.new.store) c.args.set.now c.make_copy.new.set (take c.args.at c.args.code.now) c.args.instr.now
-    c.in-CopyGround.copy c.in-CopyGround.membrane c.in-CopyGround.part c.at-root.result c.requires.held c.in-CopyGround.is c.at-root.ensures c.in_ok-make_copy-in-CopyGround.ensures.ok (length c.args.set.now.integers) (length c.args.set.now.copies) refl c.requires.reads in
-    lists_copy g.S.LinkStore.atom_id (g.S.LinkStore.heap c.make_copy.new.store) c.make_copy.new.set.parts c.args.code.now c.args.at c.make_copy.new.trail c.args.instr.now c.requires.at
-    c.in-CopyGround.copy c.in-CopyGround.membrane c.in-CopyGround.part c.at-root.result c.in-CopyGround.is (subst (λ ps. slice_get ps c.in-CopyGround.part ≡ Some c.at-root.result) (sym made.grows.parts) c.at-root.ensures)
-    c.in_ok-make_copy-in-CopyGround.ensures.listed
+    c.in-CopyGround.copy c.in-CopyGround.membrane c.in-CopyGround.part c.at-root.result c.requires.held c.in-CopyGround.is c.at-root.ensures c.in_ok-make_copy-in-CopyGround.ensures.ok c.in_ok-make_copy-in-CopyGround.ensures.listed (length c.args.set.now.integers) (length c.args.set.now.copies) refl c.requires.reads
 
 pub returns-in_ok-make_copy-in-CopyGround-clause-counted : goal.returns-in_ok-make_copy-in-CopyGround-clause-counted
 returns-in_ok-make_copy-in-CopyGround-clause-counted g c =
     let made = copy_made g.S.LinkStore.atom_id g.S.LinkStore.mem_id (g.S.LinkStore.heap c.args.store.now) (g.S.LinkStore.heap c.make_copy.new.store) c.args.set.now c.make_copy.new.set (take c.args.at c.args.code.now) c.args.instr.now
-    c.in-CopyGround.copy c.in-CopyGround.membrane c.in-CopyGround.part c.at-root.result c.requires.held c.in-CopyGround.is c.at-root.ensures c.in_ok-make_copy-in-CopyGround.ensures.ok (length c.args.set.now.integers) (length c.args.set.now.copies) refl c.requires.reads in
+    c.in-CopyGround.copy c.in-CopyGround.membrane c.in-CopyGround.part c.at-root.result c.requires.held c.in-CopyGround.is c.at-root.ensures c.in_ok-make_copy-in-CopyGround.ensures.ok c.in_ok-make_copy-in-CopyGround.ensures.listed (length c.args.set.now.integers) (length c.args.set.now.copies) refl c.requires.reads in
     counted_kept g.S.LinkStore.atom_id g.S.LinkStore.mem_id (g.S.LinkStore.heap c.args.store.now) (g.S.LinkStore.heap c.make_copy.new.store) c.args.set.now c.make_copy.new.set (take c.args.at c.args.code.now) c.args.instr.now (length c.args.set.now.integers) c.args.counted.register c.args.counted.count
     (subst KeepsCount (sym c.in-CopyGround.is) tt) made c.requires.held c.requires.uses c.requires.reads
     (take (c.args.at + 1) c.args.code.now) (take_get c.args.at c.args.code.now c.args.instr.now c.requires.at) c.requires.counted
 
 pub make-requires-clause-copies : goal.make-requires-clause-copies
 make-requires-clause-copies g c = copies_none c.args.instr.now c.in_default.not-CopyGround
-
-pub returns-in-LoadRule-clause-listed : goal.returns-in-LoadRule-clause-listed
-returns-in-LoadRule-clause-listed g c = on_ok_weaker c.make_room.result
-    (λ made. lists_none g.S.LinkStore.atom_id (g.S.LinkStore.heap c.make_room.new.store) c.args.set.now.parts c.args.code.now c.args.at c.args.trail.now c.args.instr.now c.requires.at (subst CopiesNone (sym c.in-LoadRule.is) tt) (λ m. subst MakesAtom c.in-LoadRule.is m)) c.make_room.ensures.ok
-
-pub returns-in-CopyRules-clause-listed : goal.returns-in-CopyRules-clause-listed
-returns-in-CopyRules-clause-listed g c = on_ok_weaker c.make_room-in-CopyRules.result
-    (λ made. lists_none g.S.LinkStore.atom_id (g.S.LinkStore.heap c.make_room-in-CopyRules.new.store) c.args.set.now.parts c.args.code.now c.args.at c.args.trail.now c.args.instr.now c.requires.at (subst CopiesNone (sym c.in-CopyRules.is) tt) (λ m. subst MakesAtom c.in-CopyRules.is m)) c.make_room-in-CopyRules.ensures.ok
-
-pub returns-in_ok-make_membrane-in-NewMem-clause-listed : goal.returns-in_ok-make_membrane-in-NewMem-clause-listed
-returns-in_ok-make_membrane-in-NewMem-clause-listed g c =
-    lists_none g.S.LinkStore.atom_id (g.S.LinkStore.heap c.make_membrane.new.store) c.make_membrane.new.set.parts c.args.code.now c.args.at c.args.trail.now c.args.instr.now c.requires.at (subst CopiesNone (sym c.in-NewMem.is) tt) (λ m. subst MakesAtom c.in-NewMem.is m)
-
-pub returns-in_ok-make-in_default-clause-listed : goal.returns-in_ok-make-in_default-clause-listed
-returns-in_ok-make-in_default-clause-listed g c =
-    lists_on g.S.LinkStore.atom_id (g.S.LinkStore.heap c.make.new.store) c.make.new.set.parts c.args.code.now c.args.at c.make.new.trail c.args.instr.now c.requires.at
-    (g.S.LinkStore.heap c.args.store.now) c.args.set.now.parts c.args.trail.now (copies_none c.args.instr.now c.in_default.not-CopyGround) c.make.ensures.trail (c.in_ok-make-in_default.ensures.ok (take c.args.at c.args.code.now)).grows.parts
-    c.root-root.ensures.sound c.make.ensures.makes c.requires.parts c.requires.listed
 
 pub make-requires-clause-keeps : goal.make-requires-clause-keeps
 make-requires-clause-keeps g c = keeps_count c.args.instr.now c.in_default.not-NewMem c.in_default.not-LoadRule c.in_default.not-CopyRules
@@ -89,3 +54,6 @@ returns-in_ok-make-in_default-clause-counted g c =
     counted_kept g.S.LinkStore.atom_id g.S.LinkStore.mem_id (g.S.LinkStore.heap c.args.store.now) (g.S.LinkStore.heap c.make.new.store) c.args.set.now c.make.new.set (take c.args.at c.args.code.now) c.args.instr.now (length c.args.set.now.integers) c.args.counted.register c.args.counted.count
     (keeps_count c.args.instr.now c.in_default.not-NewMem c.in_default.not-LoadRule c.in_default.not-CopyRules) (c.in_ok-make-in_default.ensures.ok (take c.args.at c.args.code.now)) c.requires.held c.requires.uses c.requires.reads
     (take (c.args.at + 1) c.args.code.now) (take_get c.args.at c.args.code.now c.args.instr.now c.requires.at) c.requires.counted
+
+pub make_copy-requires-clause-listed : goal.make_copy-requires-clause-listed
+make_copy-requires-clause-listed g c = c.requires.held.listed
