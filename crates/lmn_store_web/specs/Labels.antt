@@ -1,29 +1,41 @@
--- The number by which the cell of an atom tells its label: its upper half is the class by which atoms are filed.
-use Rattle.std.specs.Prelude.{◌≡◌, ◌==◌, ℕ, Bool, pos, negsuc, ◌+◌, ◌-◌, ◌*◌, ◌/◌, ◌%◌, ◌^◌, ◌<◌, nat_lt, if◌then◌else◌}
+-- The number by which the cell of an atom tells its label: its upper half is the class by which atoms are filed, its lower half the label's own.
+use Rattle.std.specs.Prelude.{◌≡◌, ℕ, Bool, pos, negsuc, ◌+◌, ◌-◌, ◌*◌, ◌/◌, ◌%◌, ◌^◌, ◌<◌, nat_lt, if◌then◌else◌}
 use Rattle.lmn_base.specs.declared.functor.Label.{Label}
 use Rattle.lmn_base.specs.declared.functor.Label.TheVariants.{Name, Int}
 
--- where the lower halves of integers below 0 begin, and the upper halves of integers that are filed by value
+-- where the integers below 0 begin among the values of a half
 abbrev pub NEGATIVES : ℕ
 NEGATIVES = 2 ^ 63
 
--- a half has so many values; numbers of names are multiples of it
-abbrev pub NAMES : ℕ
-NAMES = 2 ^ 64
+-- a half has so many values
+abbrev pub HALF : ℕ
+HALF = 2 ^ 64
 
--- All integers have the upper half 0, or, where they are filed by value, one of their own for two of them at most.
+-- so many classes names have, and as many integers that are filed by value
+abbrev pub CLASSES : ℕ
+CLASSES = 2 ^ 15
+
+-- what is a label's own: its name, or its integer by its bits
+abbrev pub own_of : Label → ℕ
+own_of (Name n) = n
+own_of (Int (pos k)) = k
+own_of (Int (negsuc k)) = HALF - 1 - k
+
+-- All integers have the class 0, or, where they are filed by value, their last bits, and names have other classes.
+abbrev pub class_of : Bool → Label → ℕ
+class_of by_value (Name n) = CLASSES + n % CLASSES
+class_of by_value (Int z) = if by_value then own_of (Int z) % CLASSES else 0
+
 abbrev pub label_number : Bool → Label → ℕ
-label_number by_value (Name n) = (n + 1) * NAMES
-label_number by_value (Int (pos k)) = if by_value then (NEGATIVES + k) * NAMES else k
-label_number by_value (Int (negsuc k)) = if by_value then (NAMES - 1 - k) * NAMES + 1 else NAMES - 1 - k
+label_number by_value label = class_of by_value label * HALF + own_of label
 
--- the integer with these halves, where it is filed by value
-abbrev pub value_by : ℕ → ℕ → Label
-value_by high low = if low == 0 then Int (pos (high - NEGATIVES)) else Int (negsuc (NAMES - 1 - high))
+-- the integer of some bits
+abbrev pub integer_by : ℕ → Label
+integer_by n = if nat_lt n NEGATIVES then Int (pos n) else Int (negsuc (HALF - 1 - n))
 
 -- the label of a number, however it was filed
 abbrev pub label_by : ℕ → Label
-label_by n = if nat_lt n NEGATIVES then Int (pos n) else if nat_lt n NAMES then Int (negsuc (NAMES - 1 - n)) else if nat_lt (n / NAMES) NEGATIVES then Name (n / NAMES - 1) else value_by (n / NAMES) (n % NAMES)
+label_by n = if nat_lt (n / HALF) CLASSES then integer_by (n % HALF) else Name (n % HALF)
 
 -- a name of 32 bits, or an integer of 64
 abbrev pub IsNarrow : Label → Type 0

@@ -1,34 +1,45 @@
 //! The label of an atom, and the number by which its cell tells it.
-ghost use Rattle.std.specs.Prelude.{◌≡◌, ◌<◌, ◌≤◌, ◌^◌, Bool, false, true};
+ghost use Rattle.std.specs.Prelude.{◌≡◌, ◌+◌, ◌*◌, ◌<◌, ◌^◌, Bool};
 ghost use Rattle.lmn_base.specs.declared.functor.Label.TheVariants.{Int};
-ghost use Rattle.lmn_store_web.specs.Labels.{IsLabelNumber, IsNarrow, label_by, label_number, value_by};
+ghost use Rattle.lmn_web.specs.Webs.{label_class};
+ghost use Rattle.lmn_store_web.specs.Labels.{IsLabelNumber, IsNarrow, integer_by, label_by, label_number, own_of};
 
 use lmn_base::Label;
 
-// Where the lower halves of integers below 0 begin, and the upper halves of integers that are filed by value.
-const NEGATIVES: u128 = 0x8000_0000_0000_0000;
-
 // A half has so many values.
-const NAMES: u128 = 0x1_0000_0000_0000_0000;
+const HALF: u128 = 0x1_0000_0000_0000_0000;
 
-/// The number of a label. Its upper half is another one for each name. That of an integer is 0, or another one for each of these
-/// too, but for two at most that share one, where integers are filed by value.
+// So many classes names have, and as many integers that are filed by value.
+const CLASSES: u64 = 32_768;
+
+/// The number of a label. Its lower half is the name, or the integer by its bits; its upper half is the class: of an integer 0,
+/// or where integers are filed by value the last bits of it, and of a name one of as many others.
 pub fn number_of(label: Label, by_value: bool) -> u128
     ensures number { result ≡ label_number by_value label }
     ensures range { IsLabelNumber by_value result }
+    ensures class { label_class result < 2 ^ 16 }
     ensures back { label_by result ≡ label }
 {
     label_is_narrow(label);
     match label {
-        Label::Name(n) => (n as u128 + 1) * NAMES,
+        Label::Name(n) => number_with(CLASSES + n as u64 % CLASSES, n as u64),
         Label::Int(z) => {
+            let bits = bits_of(z);
             if by_value {
-                number_of_value(z)
+                number_with(bits % CLASSES, bits)
             } else {
-                number_of_integer(z)
+                bits as u128
             }
         }
     }
+}
+
+// A class and what is the label's own.
+fn number_with(class: u64, own: u64) -> u128
+    requires { class < 2 ^ 16 }
+    ensures { result ≡ class * 2 ^ 64 + own }
+{
+    class as u128 * HALF + own as u128
 }
 
 /// A label has a name of 32 bits, or an integer of 64.
@@ -46,25 +57,14 @@ fn integer_is_narrow(z: i64)
     ensures { IsNarrow (Int z) }
 {}
 
-/// The number of an integer in the class of all of them: its bits.
-fn number_of_integer(z: i64) -> u128
-    ensures { result ≡ label_number false (Int z) }
+/// An integer by its bits.
+fn bits_of(z: i64) -> u64
+    ensures { result ≡ own_of (Int z) }
 {
     if z >= 0 {
-        (z as u64) as u128
+        z as u64
     } else {
-        (u64::MAX - (-(z + 1)) as u64) as u128
-    }
-}
-
-/// The number of an integer in a class of its value.
-fn number_of_value(z: i64) -> u128
-    ensures { result ≡ label_number true (Int z) }
-{
-    if z >= 0 {
-        (NEGATIVES + (z as u64) as u128) * NAMES
-    } else {
-        ((u64::MAX - (-(z + 1)) as u64) as u128) * NAMES + 1
+        u64::MAX - (-(z + 1)) as u64
     }
 }
 
@@ -73,38 +73,21 @@ pub fn label_of(n: u128) -> Label
     requires { (by_value : Bool) × IsLabelNumber by_value n }
     ensures { result ≡ label_by n }
 {
-    if n < NAMES {
-        return Label::Int(integer_of(n));
-    }
-    let high = n / NAMES;
-    if high < NEGATIVES {
-        Label::Name((high - 1) as u32)
+    let own = (n % HALF) as u64;
+    if ((n / HALF) as u64) < CLASSES {
+        Label::Int(integer_of(own))
     } else {
-        Label::Int(value_of(high, n % NAMES))
+        Label::Name(own as u32)
     }
 }
 
-// The integer of a number.
-fn integer_of(n: u128) -> i64
-    requires { n < 2 ^ 64 }
-    ensures { Int result ≡ label_by n }
+// The integer of some bits.
+fn integer_of(n: u64) -> i64
+    ensures { Int result ≡ integer_by n }
 {
-    if n < NEGATIVES {
+    if n < 0x8000_0000_0000_0000 {
         n as i64
     } else {
-        -((NAMES - 1 - n) as i64) - 1
-    }
-}
-
-// The integer of two halves.
-fn value_of(high: u128, low: u128) -> i64
-    requires value { 2 ^ 63 ≤ high }
-    requires half { high < 2 ^ 64 }
-    ensures { Int result ≡ value_by high low }
-{
-    if low == 0 {
-        (high - NEGATIVES) as i64
-    } else {
-        -((NAMES - 1 - high) as i64) - 1
+        -((u64::MAX - n) as i64) - 1
     }
 }

@@ -84,7 +84,7 @@ pub holder_alive : (f : ℕ → Option HeldCell) (m c : ℕ) (xs : List ℕ) (t 
 holder_alive f m c xs t a p = holds_there f m xs (place_in f p m t).holder (place_in f p m t).link (holds_atoms f m xs t a.classed a.no_m p) a.there_m a.alive
 
 -- in a word of one of its links
-pub holder_word : (f : ℕ → Option HeldCell) (m c : ℕ) (xs : List ℕ) (t : ClassTree) → MayFile f m c xs t → (p : ℕ × ℕ) (word : ℕ) → (word < 7) ⊎ (word ≡ 15) → link_of word ≡ (place_in f p m t).link → IsLinkWord (f (place_in f p m t).holder) word
+pub holder_word : (f : ℕ → Option HeldCell) (m c : ℕ) (xs : List ℕ) (t : ClassTree) → MayFile f m c xs t → (p : ℕ × ℕ) (word : ℕ) → (word < 7) ⊎ (word ≡ 14) → link_of word ≡ (place_in f p m t).link → IsLinkWord (f (place_in f p m t).holder) word
 holder_word f m c xs t a p word (inl low) e = inl low
 holder_word f m c xs t a p word (inr last) e =
     let head : (place_in f p m t).link ≡ LEADERS = sym e ∙ ap link_of last in

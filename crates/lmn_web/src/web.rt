@@ -69,6 +69,7 @@ impl Web {
     /// number of ports than one.
     #[inline(always)]
     pub fn make(&mut self, label: u128, arity: u8, kind: CellKind) -> Result<Cell, AllocError>
+        requires { label_class label < 2 ^ 16 }
         ensures { MatchResult result
             (λ c. (web_by self.old (cell_id c) ≡ None) × (web_by self.new ≡ alter (web_by self.old) (cell_id c) (λ _. Some (new_cell label arity kind))))
             (λ _. web_by self.new ≡ web_by self.old) }
@@ -80,6 +81,7 @@ impl Web {
     #[inline(always)]
     fn make_by(&mut self, label: u128, arity: u8, kind: u64) -> Result<Cell, AllocError>
         requires small { kind < 256 }
+        requires class { label_class label < 2 ^ 16 }
         requires filed { kind ≡ FILED → label_class label ≡ 0 }
         ensures { MatchResult result
             (λ c. (web_by self.old (cell_id c) ≡ None) × (web_by self.new ≡ alter (web_by self.old) (cell_id c) (λ _. Some (new_cell label arity (kind_by kind)))))
@@ -445,7 +447,7 @@ fn make_blank(cells: &mut Cells, arity: u8, kind: u64) -> Result<Cell, AllocErro
 // The numbers of a cell that was just made.
 fn describe(cells: &mut Cells, c: Cell, arity: u64, kind: u64, high: u64, low: u64)
     requires there { IsSome (cells_by cells.old (cell_id c)) }
-    requires small { (arity < 256) × (kind < 256) }
+    requires small { (arity < 256) × (kind < 256) × (high < 2 ^ 16) }
     ensures { cells_by cells.new ≡ alter (cells_by cells.old) (cell_id c) (option_map (described arity kind high low)) }
 {
     cells.set_number(c, ARITY, arity);

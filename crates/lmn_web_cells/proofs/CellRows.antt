@@ -6,11 +6,11 @@ use Rattle.lmn_base.proofs.Truth.{if_no}
 use Rattle.std.specs.Option.{option_map}
 use denote.RawPtr.{Ptr, null_ptr}
 use Rattle.lmn_web_cells.specs.Rows.{Item, blank, link, number, halves, halves_in, with_half, half_at, with_half_at, Row, items_in, with_items, place_ptr, IsStart, place_of}
-use Rattle.lmn_web_cells.specs.Cells.{HeldPort, HeldCell, pointer_to, link_to, link_items, both, first_items, port_and_mark, cell_items, cell_by, cells_by, IsShaped, IsLaid, AreLaid, HaveFewPorts, HaveLinks, links_of, numbers_of, ports_of, no_port, with_link, with_number, with_to, with_port, with_mark}
+use Rattle.lmn_web_cells.specs.Cells.{HeldPort, HeldCell, pointer_to, link_to, link_items, in_half, first_items, port_and_mark, cell_items, cell_by, cells_by, IsShaped, IsLaid, AreLaid, HaveFewPorts, HaveLinks, links_of, numbers_of, ports_of, no_port, with_link, with_number, with_to, with_port, with_mark}
 use Rattle.lmn_store_heap.specs.Heap.{alter}
 use Rattle.lmn_store_heap.proofs.Listing.{alter_at, alter_away}
 use Rattle.lmn_web_cells.specs.CellIds.{IsLink, led_by}
-use Rattle.lmn_web_cells.proofs.CellWords.{place_again, end_of, some_numbers, one_port, cell_back, ports_at, set_ports_at, port_word_at, set_to_at, set_port_at, set_mark_at, narrow_set, port_in, mark_in, word_count, first_in, second_in, number_word_at, set_small_number_at, first_number_at, set_first_number_at, last_number_word, set_last_number_word, first_link_at, set_first_link_at, last_link_word, set_last_link_word}
+use Rattle.lmn_web_cells.proofs.CellWords.{place_again, end_of, some_numbers, one_port, cell_back, ports_at, set_ports_at, port_word_at, set_to_at, set_port_at, set_mark_at, narrow_set, port_in, mark_in, word_count, first_in, second_in, third_in, half_with, number_word_at, set_small_number_at, first_number_at, set_first_number_at, last_number_word, set_last_number_word, first_link_at, set_first_link_at, last_link_word, set_last_link_word}
 pub use Rattle.lmn_web_rows.proofs.Lookups.{if_yes, items_same, items_away}
 
 -- what isn't none in a list is one of it
@@ -56,10 +56,10 @@ word_is rows b k laid there low =
 
 -- the last one of a membrane's
 pub last_word_is : (rows : List Row) (b : ℕ) (laid : AreLaid rows) (there : IsSome (cells_by rows b)) → length (numbers_of (cells_by rows b)) ≡ 8
-    → get_or (items_in rows b) 15 blank ≡ link_to (get_or (links_of (cells_by rows b)) 7 None)
+    → get_or (items_in rows b) 14 blank ≡ link_to (get_or (links_of (cells_by rows b)) 7 None)
 last_word_is rows b laid there eight =
     let f = found rows b laid there in
-    ap (λ is. get_or is 15 blank) f.words ∙ last_link_word f.cell f.shaped (sym (ap (λ (o : Option HeldCell). length (numbers_of o)) f.is) ∙ eight)
+    ap (λ is. get_or is 14 blank) f.words ∙ last_link_word f.cell f.shaped (sym (ap (λ (o : Option HeldCell). length (numbers_of o)) f.is) ∙ eight)
     ∙ ap (λ (o : Option HeldCell). link_to (get_or (links_of o) 7 None)) (sym f.is)
 
 -- the pointer in a word, if it is one
@@ -100,12 +100,12 @@ number_read i m n e r = ap number_in (sym r ∙ e)
 
 -- the word of the index of a cell and of its small numbers
 pub number_word_is : (rows : List Row) (b : ℕ) (laid : AreLaid rows) (there : IsSome (cells_by rows b))
-    → get_or (items_in rows b) 7 blank ≡ halves (get_or (numbers_of (cells_by rows b)) 2 0) (both (get_or (numbers_of (cells_by rows b)) 0 0) (get_or (numbers_of (cells_by rows b)) 1 0))
+    → get_or (items_in rows b) 7 blank ≡ halves (get_or (numbers_of (cells_by rows b)) 2 0) (in_half (get_or (numbers_of (cells_by rows b)) 0 0) (get_or (numbers_of (cells_by rows b)) 1 0) (get_or (numbers_of (cells_by rows b)) 3 0))
 number_word_is rows b laid there =
     let f = found rows b laid there in
-    ap (λ is. get_or is 7 blank) f.words ∙ number_word_at f.cell f.shaped ∙ ap (λ (o : Option HeldCell). halves (get_or (numbers_of o) 2 0) (both (get_or (numbers_of o) 0 0) (get_or (numbers_of o) 1 0))) (sym f.is)
+    ap (λ is. get_or is 7 blank) f.words ∙ number_word_at f.cell f.shaped ∙ ap (λ (o : Option HeldCell). halves (get_or (numbers_of o) 2 0) (in_half (get_or (numbers_of o) 0 0) (get_or (numbers_of o) 1 0) (get_or (numbers_of o) 3 0))) (sym f.is)
 
-pub small_is : (rows : List Row) (b : ℕ) (laid : AreLaid rows) (there : IsSome (cells_by rows b)) → half_at (items_in rows b) 15 ≡ Some (both (get_or (numbers_of (cells_by rows b)) 0 0) (get_or (numbers_of (cells_by rows b)) 1 0))
+pub small_is : (rows : List Row) (b : ℕ) (laid : AreLaid rows) (there : IsSome (cells_by rows b)) → half_at (items_in rows b) 15 ≡ Some (in_half (get_or (numbers_of (cells_by rows b)) 0 0) (get_or (numbers_of (cells_by rows b)) 1 0) (get_or (numbers_of (cells_by rows b)) 3 0))
 small_is rows b laid there = ap (λ i. get_or (halves_in i) 1 None) (number_word_is rows b laid there)
 
 pub index_is : (rows : List Row) (b : ℕ) (laid : AreLaid rows) (there : IsSome (cells_by rows b)) → half_at (items_in rows b) 14 ≡ Some (get_or (numbers_of (cells_by rows b)) 2 0)
@@ -115,59 +115,62 @@ index_is rows b laid there = ap (λ i. get_or (halves_in i) 0 None) (number_word
 pub small_fits : (rows : List Row) (b k : ℕ) (laid : AreLaid rows) (there : IsSome (cells_by rows b)) → k < 2 → get_or (numbers_of (cells_by rows b)) k 0 < 256
 small_fits rows b k laid there low = let f = found rows b laid there in subst (λ (o : Option HeldCell). get_or (numbers_of o) k 0 < 256) (sym f.is) (f.shaped.small k low)
 
--- both as one number
-pub both_fits : (rows : List Row) (b n : ℕ) (laid : AreLaid rows) (there : IsSome (cells_by rows b)) → n ≡ both (get_or (numbers_of (cells_by rows b)) 0 0) (get_or (numbers_of (cells_by rows b)) 1 0) → n < 2 ^ 16
-both_fits rows b n laid there e = let l = small_fits rows b 0 laid there (omega arith) in let m = small_fits rows b 1 laid there (omega arith) in omega (arith, e, l, m)
+-- one of the first two in what was read
+if_first : (k all : ℕ) → k ≡ 0 → (if k == 0 then all / 256 % 256 else all % 256) ≡ all / 256 % 256
+if_first k all e = if_yes (k == 0) (all / 256 % 256) (all % 256) (eq-eqb k 0 e)
 
--- one of them in what was read
-if_first : (k all : ℕ) → k ≡ 0 → (if k == 0 then all / 256 else all % 256) ≡ all / 256
-if_first k all e = if_yes (k == 0) (all / 256) (all % 256) (eq-eqb k 0 e)
+if_second : (k all : ℕ) → k ≢ 0 → (if k == 0 then all / 256 % 256 else all % 256) ≡ all % 256
+if_second k all d = if_no (k == 0) (all / 256 % 256) (all % 256) (not_equal k 0 d)
 
-if_second : (k all : ℕ) → k ≢ 0 → (if k == 0 then all / 256 else all % 256) ≡ all % 256
-if_second k all d = if_no (k == 0) (all / 256) (all % 256) (not_equal k 0 d)
-
-pub part_read : (rows : List Row) (b k all n : ℕ) (laid : AreLaid rows) (there : IsSome (cells_by rows b)) → k < 2 → all ≡ both (get_or (numbers_of (cells_by rows b)) 0 0) (get_or (numbers_of (cells_by rows b)) 1 0)
-    → n ≡ (if k == 0 then all / 256 else all % 256) → n ≡ get_or (numbers_of (cells_by rows b)) k 0
+pub part_read : (rows : List Row) (b k all n : ℕ) (laid : AreLaid rows) (there : IsSome (cells_by rows b)) → k < 2 → all ≡ in_half (get_or (numbers_of (cells_by rows b)) 0 0) (get_or (numbers_of (cells_by rows b)) 1 0) (get_or (numbers_of (cells_by rows b)) 3 0)
+    → n ≡ (if k == 0 then all / 256 % 256 else all % 256) → n ≡ get_or (numbers_of (cells_by rows b)) k 0
 part_read rows b k all n laid there low e r =
-    let ns = numbers_of (cells_by rows b) in let small = small_fits rows b 1 laid there (omega arith) in elim (cases_eq k 0) [
-      | inl z ↦ r ∙ if_first k all z ∙ ap (λ m. m / 256) e ∙ first_in (get_or ns 0 0) (get_or ns 1 0) small ∙ sym (ap (λ m. get_or ns m 0) z)
-      | inr d ↦ (let z : k ≡ 1 = only_one k low d in r ∙ if_second k all d ∙ ap (λ m. m % 256) e ∙ second_in (get_or ns 0 0) (get_or ns 1 0) small ∙ sym (ap (λ m. get_or ns m 0) z))
+    let ns = numbers_of (cells_by rows b) in let one = small_fits rows b 0 laid there (omega arith) in let two = small_fits rows b 1 laid there (omega arith) in elim (cases_eq k 0) [
+      | inl z ↦ r ∙ if_first k all z ∙ ap (λ m. m / 256 % 256) e ∙ first_in (get_or ns 0 0) (get_or ns 1 0) (get_or ns 3 0) one two ∙ sym (ap (λ m. get_or ns m 0) z)
+      | inr d ↦ (let z : k ≡ 1 = only_one k low d in r ∙ if_second k all d ∙ ap (λ m. m % 256) e ∙ second_in (get_or ns 0 0) (get_or ns 1 0) (get_or ns 3 0) one two ∙ sym (ap (λ m. get_or ns m 0) z))
     ]
   where
     only_one : (k : ℕ) → k < 2 → k ≢ 0 → k ≡ 1
     only_one k low d = omega (arith, low, d)
 
--- the word of one of the three others
-pub number_is : (rows : List Row) (b k : ℕ) (laid : AreLaid rows) (there : IsSome (cells_by rows b)) → 3 ≤ k → k < 6
-    → get_or (items_in rows b) (7 + k - 2) blank ≡ number (get_or (numbers_of (cells_by rows b)) k 0)
+-- and the third one
+pub class_read : (rows : List Row) (b all : ℕ) (laid : AreLaid rows) (there : IsSome (cells_by rows b)) → all ≡ in_half (get_or (numbers_of (cells_by rows b)) 0 0) (get_or (numbers_of (cells_by rows b)) 1 0) (get_or (numbers_of (cells_by rows b)) 3 0)
+    → all / 65536 ≡ get_or (numbers_of (cells_by rows b)) 3 0
+class_read rows b all laid there e =
+    let ns = numbers_of (cells_by rows b) in
+    ap (λ m. m / 65536) e ∙ third_in (get_or ns 0 0) (get_or ns 1 0) (get_or ns 3 0) (small_fits rows b 0 laid there (omega arith)) (small_fits rows b 1 laid there (omega arith))
+
+-- the word of one of the two others
+pub number_is : (rows : List Row) (b k : ℕ) (laid : AreLaid rows) (there : IsSome (cells_by rows b)) → 4 ≤ k → k < 6
+    → get_or (items_in rows b) (7 + k - 3) blank ≡ number (get_or (numbers_of (cells_by rows b)) k 0)
 number_is rows b k laid there high low =
     let f = found rows b laid there in
-    ap (λ is. get_or is (7 + k - 2) blank) f.words ∙ first_number_at f.cell f.shaped k high low ∙ ap (λ (o : Option HeldCell). number (get_or (numbers_of o) k 0)) (sym f.is)
+    ap (λ is. get_or is (7 + k - 3) blank) f.words ∙ first_number_at f.cell f.shaped k high low ∙ ap (λ (o : Option HeldCell). number (get_or (numbers_of o) k 0)) (sym f.is)
 
 -- that of one of the last numbers of a membrane
 pub count_is : (rows : List Row) (b k : ℕ) (laid : AreLaid rows) (there : IsSome (cells_by rows b)) → length (numbers_of (cells_by rows b)) ≡ 8 → 6 ≤ k → k < 8
-    → get_or (items_in rows b) (13 + k - 6) blank ≡ number (get_or (numbers_of (cells_by rows b)) k 0)
+    → get_or (items_in rows b) (12 + k - 6) blank ≡ number (get_or (numbers_of (cells_by rows b)) k 0)
 count_is rows b k laid there eight h low =
     let f = found rows b laid there in
-    ap (λ is. get_or is (13 + k - 6) blank) f.words ∙ last_number_word f.cell f.shaped (sym (ap (λ (o : Option HeldCell). length (numbers_of o)) f.is) ∙ eight) k h low
+    ap (λ is. get_or is (12 + k - 6) blank) f.words ∙ last_number_word f.cell f.shaped (sym (ap (λ (o : Option HeldCell). length (numbers_of o)) f.is) ∙ eight) k h low
     ∙ ap (λ (o : Option HeldCell). number (get_or (numbers_of o) k 0)) (sym f.is)
 
 -- Ports
 
 -- the word that says where a port leads
 pub to_is : (rows : List Row) (b j : ℕ) (laid : AreLaid rows) (there : IsSome (cells_by rows b)) → j < length (ports_of (cells_by rows b))
-    → get_or (items_in rows b) (11 + (j * 2 + 0)) blank ≡ link_to (get_or (ports_of (cells_by rows b)) j no_port).to
+    → get_or (items_in rows b) (10 + (j * 2 + 0)) blank ≡ link_to (get_or (ports_of (cells_by rows b)) j no_port).to
 to_is rows b j laid there low =
     let f = found rows b laid there in
-    ap (λ is. get_or is (11 + (j * 2 + 0)) blank) f.words ∙ ports_at f.cell f.shaped (j * 2 + 0) ∙ port_word_at f.cell.ports j 0 (end_of f.cell) (omega arith) (subst (λ (o : Option HeldCell). j < length (ports_of o)) f.is low)
+    ap (λ is. get_or is (10 + (j * 2 + 0)) blank) f.words ∙ ports_at f.cell f.shaped (j * 2 + 0) ∙ port_word_at f.cell.ports j 0 (end_of f.cell) (omega arith) (subst (λ (o : Option HeldCell). j < length (ports_of o)) f.is low)
     ∙ ap (λ (o : Option HeldCell). link_to (get_or (ports_of o) j no_port).to) (sym f.is)
 
 -- the word of the port there and of the mark
 pub port_and_mark_is : (rows : List Row) (b j : ℕ) (laid : AreLaid rows) (there : IsSome (cells_by rows b)) → j < length (ports_of (cells_by rows b))
-    → get_or (items_in rows b) (11 + (j * 2 + 1)) blank ≡ number (port_and_mark (get_or (ports_of (cells_by rows b)) j no_port))
+    → get_or (items_in rows b) (10 + (j * 2 + 1)) blank ≡ number (port_and_mark (get_or (ports_of (cells_by rows b)) j no_port))
 port_and_mark_is rows b j laid there low =
     let f = found rows b laid there in
-    ap (λ is. get_or is (11 + (j * 2 + 1)) blank) f.words ∙ ports_at f.cell f.shaped (j * 2 + 1) ∙ port_word_at f.cell.ports j 1 (end_of f.cell) (omega arith) (subst (λ (o : Option HeldCell). j < length (ports_of o)) f.is low)
+    ap (λ is. get_or is (10 + (j * 2 + 1)) blank) f.words ∙ ports_at f.cell f.shaped (j * 2 + 1) ∙ port_word_at f.cell.ports j 1 (end_of f.cell) (omega arith) (subst (λ (o : Option HeldCell). j < length (ports_of o)) f.is low)
     ∙ ap (λ (o : Option HeldCell). number (port_and_mark (get_or (ports_of o) j no_port))) (sym f.is)
 
 -- the port and the mark in what was read of it
@@ -212,18 +215,18 @@ pub six_there : (rows : List Row) (b : ℕ) → AreLaid rows → IsSome (cells_b
 six_there rows b laid there = let f = found rows b laid there in subst (λ (o : Option HeldCell). 6 ≤ length (numbers_of o)) (sym f.is) (some_numbers f.cell f.shaped)
 
 -- a cell has the words of its links and first numbers
-pub words_there : (rows : List Row) (b : ℕ) → AreLaid rows → IsSome (cells_by rows b) → 11 ≤ length (items_in rows b)
-words_there rows b laid there = let f = found rows b laid there in subst (λ is. 11 ≤ length is) (sym f.words) (let n = word_count f.cell f.shaped in omega (arith, n))
+pub words_there : (rows : List Row) (b : ℕ) → AreLaid rows → IsSome (cells_by rows b) → 10 ≤ length (items_in rows b)
+words_there rows b laid there = let f = found rows b laid there in subst (λ is. 10 ≤ length is) (sym f.words) (let n = word_count f.cell f.shaped in omega (arith, n))
 
 -- both halves of the word of small numbers are there
 pub halves_there : (rows : List Row) (b : ℕ) → AreLaid rows → IsSome (cells_by rows b) → 1 < length (halves_in (get_or (items_in rows b) 7 blank))
 halves_there rows b laid there = written_there (halves_in (get_or (items_in rows b) 7 blank)) 1 _ (small_is rows b laid there)
 
 -- a cell has the words of its ports
-pub port_words_there : (rows : List Row) (b j w : ℕ) → AreLaid rows → IsSome (cells_by rows b) → j < length (ports_of (cells_by rows b)) → w < 2 → 11 + (j * 2 + w) < length (items_in rows b)
+pub port_words_there : (rows : List Row) (b j w : ℕ) → AreLaid rows → IsSome (cells_by rows b) → j < length (ports_of (cells_by rows b)) → w < 2 → 10 + (j * 2 + w) < length (items_in rows b)
 port_words_there rows b j w laid there low h =
     let f = found rows b laid there in let l : j < length f.cell.ports = subst (λ (o : Option HeldCell). j < length (ports_of o)) f.is low in
-    subst (λ is. 11 + (j * 2 + w) < length is) (sym f.words) (let n = word_count f.cell f.shaped in omega (arith, n, l, h))
+    subst (λ is. 10 + (j * 2 + w) < length is) (sym f.words) (let n = word_count f.cell f.shaped in omega (arith, n, l, h))
 
 -- one word of a cell is written: what the rows stand for then
 pub changes : (rows : List Row) (b k : ℕ) (i : Item) (g : HeldCell → HeldCell) (laid : AreLaid rows) (there : IsSome (cells_by rows b))
@@ -255,17 +258,18 @@ link_changes rows b k x laid there low = changes rows b k (link_to x) (with_link
         links = length-set c.links k x ∙ s.links;
         numbers = same_count c.numbers c.numbers c.ports c.ports (get_or c.links 7 None) (get_or (set c.links k x) 7 None) refl refl (get_or-set_other c.links k 7 x None (λ (w : 7 ≡ k). absurd (omega (arith, w, low)))) s.numbers;
         small = s.small;
+        class = s.class;
         few = s.few;
         narrow = s.narrow;
       },
     ))
 
 -- the last link of a membrane
-pub last_link_changes : (rows : List Row) (b : ℕ) (x : Option ℕ) (laid : AreLaid rows) (there : IsSome (cells_by rows b)) → length (numbers_of (cells_by rows b)) ≡ 8 → Changed rows b 15 (link_to x) (with_link 7 x)
-last_link_changes rows b x laid there eight = changes rows b 15 (link_to x) (with_link 7 x) laid there
+pub last_link_changes : (rows : List Row) (b : ℕ) (x : Option ℕ) (laid : AreLaid rows) (there : IsSome (cells_by rows b)) → length (numbers_of (cells_by rows b)) ≡ 8 → Changed rows b 14 (link_to x) (with_link 7 x)
+last_link_changes rows b x laid there eight = changes rows b 14 (link_to x) (with_link 7 x) laid there
     (λ c s e. (let own : length c.numbers ≡ 8 = sym (ap (λ (o : Option HeldCell). length (numbers_of o)) e) ∙ eight in (
       set_last_link_word c s own x,
-      record { links = length-set c.links 7 x ∙ s.links; numbers = inr (own, one_port c s own); small = s.small; few = s.few; narrow = s.narrow },
+      record { links = length-set c.links 7 x ∙ s.links; numbers = inr (own, one_port c s own); small = s.small; class = s.class; few = s.few; narrow = s.narrow },
     )))
 
 -- small numbers stay small where one is another
@@ -275,68 +279,89 @@ small_set ns k n s low fits j l = elim (cases_eq j k) [
   | inr d ↦ subst (λ (x : ℕ). x < 256) (sym (get_or-set_other ns k j n 0 d)) (s j l)
 ]
 
+-- so does the upper half of a label
+class_set : (ns : List ℕ) (k n : ℕ) → get_or ns 3 0 < 2 ^ 16 → k < length ns → (k ≡ 3 → n < 2 ^ 16) → get_or (set ns k n) 3 0 < 2 ^ 16
+class_set ns k n s low fits = elim (cases_eq k 3) [
+  | inl e ↦ subst (λ (x : ℕ). x < 2 ^ 16) (sym (ap (λ (m : ℕ). get_or (set ns m n) 3 0) e ∙ get_or-set_same ns 3 n 0 (subst (λ (m : ℕ). m < length ns) e low))) (fits e)
+  | inr d ↦ subst (λ (x : ℕ). x < 2 ^ 16) (sym (get_or-set_other ns k 3 n 0 (λ e. d (sym e)))) s
+]
+
 -- what a row is after a half of a word of it was written
 pub record HalfChanged (rows : List Row) (b j n : ℕ) (g : HeldCell → HeldCell) : Type 0 where
   pub laid : AreLaid (with_items b (with_half_at j n (items_in rows b)) rows)
   pub cells : cells_by (with_items b (with_half_at j n (items_in rows b)) rows) ≡ alter (cells_by rows) b (option_map g)
 
--- both small numbers as one, where one of them is another
-abbrev pub both_with : List ℕ → ℕ → ℕ → ℕ
-both_with ns k n = both (get_or (set ns k n) 0 0) (get_or (set ns k n) 1 0)
-
 -- one of the small numbers
-pub small_changes : (rows : List Row) (b k n : ℕ) (laid : AreLaid rows) (there : IsSome (cells_by rows b)) → k < 2 → n < 256 → HalfChanged rows b 15 (both_with (numbers_of (cells_by rows b)) k n) (with_number k n)
-small_changes rows b k n laid there low fits =
-    let all = both_with (numbers_of (cells_by rows b)) k n in
+pub small_changes : (rows : List Row) (b k n : ℕ) (laid : AreLaid rows) (there : IsSome (cells_by rows b)) → k < 4 → k ≢ 2 → (k < 2 → n < 256) → (k ≡ 3 → n < 2 ^ 16) → HalfChanged rows b 15 (half_with (numbers_of (cells_by rows b)) k n) (with_number k n)
+small_changes rows b k n laid there low other fits class =
+    let all = half_with (numbers_of (cells_by rows b)) k n in
     let f = found rows b laid there in let i = with_half 1 all (get_or (items_in rows b) 7 blank) in
     let h = changes rows b 7 i (with_number k n) laid there
     (λ d t e. (
       ap (λ (is : List Item). set (cell_items d) 7 (with_half 1 all (get_or is 7 blank))) (f.words ∙ ap cell_items (same_cell (sym f.is ∙ e)))
-          ∙ ap (λ (o : Option HeldCell). with_half_at 15 (both_with (numbers_of o) k n) (cell_items d)) e ∙ set_small_number_at d t k n low,
-      record { links = t.links; numbers = same_count d.numbers (set d.numbers k n) d.ports d.ports (get_or d.links 7 None) (get_or d.links 7 None) (length-set d.numbers k n) refl refl t.numbers; small = small_set d.numbers k n t.small (let m = some_numbers d t in omega (arith, m, low)) (λ _. fits); few = t.few; narrow = t.narrow },
+          ∙ ap (λ (o : Option HeldCell). with_half_at 15 (half_with (numbers_of o) k n) (cell_items d)) e ∙ set_small_number_at d t k n low other,
+      record {
+        links = t.links;
+        numbers = same_count d.numbers (set d.numbers k n) d.ports d.ports (get_or d.links 7 None) (get_or d.links 7 None) (length-set d.numbers k n) refl refl t.numbers;
+        small = small_set d.numbers k n t.small (let m = some_numbers d t in omega (arith, m, low)) fits;
+        class = class_set d.numbers k n t.class (let m = some_numbers d t in omega (arith, m, low)) class;
+        few = t.few;
+        narrow = t.narrow;
+      },
     )) in
     record { laid = h.laid; cells = h.cells }
 
--- what is written of both, where one is another
-if_first_is : (k n all : ℕ) → k ≡ 0 → (if k == 0 then n * 256 + all % 256 else all / 256 * 256 + n) ≡ n * 256 + all % 256
-if_first_is k n all e = if_yes (k == 0) (n * 256 + all % 256) (all / 256 * 256 + n) (eq-eqb k 0 e)
+-- what is written of all, where one is another
+if_first_is : (k x y : ℕ) → k ≡ 0 → (if k == 0 then x else y) ≡ x
+if_first_is k x y e = if_yes (k == 0) x y (eq-eqb k 0 e)
 
-if_second_is : (k n all : ℕ) → k ≢ 0 → (if k == 0 then n * 256 + all % 256 else all / 256 * 256 + n) ≡ all / 256 * 256 + n
-if_second_is k n all d = if_no (k == 0) (n * 256 + all % 256) (all / 256 * 256 + n) (not_equal k 0 d)
+if_second_is : (k x y : ℕ) → k ≢ 0 → (if k == 0 then x else y) ≡ y
+if_second_is k x y d = if_no (k == 0) x y (not_equal k 0 d)
 
-first_is : (a b n all : ℕ) → b < 256 → all ≡ both a b → n * 256 + all % 256 ≡ both n b
-first_is a b n all low e = omega (arith, low, e)
+first_is : (a b h n all : ℕ) → a < 256 → b < 256 → all ≡ in_half a b h → all / 65536 * 65536 + (n * 256 + all % 256) ≡ in_half n b h
+first_is a b h n all low small e = omega (arith, low, small, e)
 
-second_is : (a b n all : ℕ) → b < 256 → all ≡ both a b → all / 256 * 256 + n ≡ both a n
-second_is a b n all low e = omega (arith, low, e)
+second_is : (a b h n all : ℕ) → a < 256 → b < 256 → all ≡ in_half a b h → all / 256 * 256 + n ≡ in_half a n h
+second_is a b h n all low small e = omega (arith, low, small, e)
 
-pub part_written : (rows : List Row) (b k n all m : ℕ) (laid : AreLaid rows) (there : IsSome (cells_by rows b)) → k < 2 → all ≡ both (get_or (numbers_of (cells_by rows b)) 0 0) (get_or (numbers_of (cells_by rows b)) 1 0)
-    → m ≡ (if k == 0 then n * 256 + all % 256 else all / 256 * 256 + n) → m ≡ both_with (numbers_of (cells_by rows b)) k n
+third_is : (a b h n all : ℕ) → a < 256 → b < 256 → all ≡ in_half a b h → n * 65536 + all % 65536 ≡ in_half a b n
+third_is a b h n all low small e = omega (arith, low, small, e)
+
+pub part_written : (rows : List Row) (b k n all m : ℕ) (laid : AreLaid rows) (there : IsSome (cells_by rows b)) → k < 2 → all ≡ in_half (get_or (numbers_of (cells_by rows b)) 0 0) (get_or (numbers_of (cells_by rows b)) 1 0) (get_or (numbers_of (cells_by rows b)) 3 0)
+    → m ≡ (if k == 0 then all / 65536 * 65536 + (n * 256 + all % 256) else all / 256 * 256 + n) → m ≡ half_with (numbers_of (cells_by rows b)) k n
 part_written rows b k n all m laid there low e r =
-    let ns = numbers_of (cells_by rows b) in let small = small_fits rows b 1 laid there (omega arith) in let six = six_there rows b laid there in elim (cases_eq k 0) [
-      | inl z ↦ r ∙ if_first_is k n all z ∙ first_is (get_or ns 0 0) (get_or ns 1 0) n all small e
-          ∙ sym (ap (λ j. both_with ns j n) z ∙ (λ t. both (get_or-set_same ns 0 n 0 (omega (arith, six)) t) (get_or-set_other ns 0 1 n 0 (λ (w : 1 ≡ 0). absurd (omega (arith, w))) t)))
-      | inr d ↦ (let z : k ≡ 1 = only_one k low d in r ∙ if_second_is k n all d ∙ second_is (get_or ns 0 0) (get_or ns 1 0) n all small e
-          ∙ sym (ap (λ j. both_with ns j n) z ∙ (λ t. both (get_or-set_other ns 1 0 n 0 (λ (w : 0 ≡ 1). absurd (omega (arith, w))) t) (get_or-set_same ns 1 n 0 (omega (arith, six)) t))))
+    let ns = numbers_of (cells_by rows b) in let one = small_fits rows b 0 laid there (omega arith) in let two = small_fits rows b 1 laid there (omega arith) in let six = six_there rows b laid there in
+    let x = all / 65536 * 65536 + (n * 256 + all % 256) in let y = all / 256 * 256 + n in elim (cases_eq k 0) [
+      | inl z ↦ r ∙ if_first_is k x y z ∙ first_is (get_or ns 0 0) (get_or ns 1 0) (get_or ns 3 0) n all one two e
+          ∙ sym (ap (λ j. half_with ns j n) z ∙ (λ t. in_half (get_or-set_same ns 0 n 0 (omega (arith, six)) t) (get_or-set_other ns 0 1 n 0 (λ (w : 1 ≡ 0). absurd (omega (arith, w))) t) (get_or-set_other ns 0 3 n 0 (λ (w : 3 ≡ 0). absurd (omega (arith, w))) t)))
+      | inr d ↦ (let z : k ≡ 1 = only_one k low d in r ∙ if_second_is k x y d ∙ second_is (get_or ns 0 0) (get_or ns 1 0) (get_or ns 3 0) n all one two e
+          ∙ sym (ap (λ j. half_with ns j n) z ∙ (λ t. in_half (get_or-set_other ns 1 0 n 0 (λ (w : 0 ≡ 1). absurd (omega (arith, w))) t) (get_or-set_same ns 1 n 0 (omega (arith, six)) t) (get_or-set_other ns 1 3 n 0 (λ (w : 3 ≡ 1). absurd (omega (arith, w))) t))))
     ]
   where
     only_one : (k : ℕ) → k < 2 → k ≢ 0 → k ≡ 1
     only_one k low d = omega (arith, low, d)
 
+pub class_written : (rows : List Row) (b n all : ℕ) (laid : AreLaid rows) (there : IsSome (cells_by rows b)) → all ≡ in_half (get_or (numbers_of (cells_by rows b)) 0 0) (get_or (numbers_of (cells_by rows b)) 1 0) (get_or (numbers_of (cells_by rows b)) 3 0)
+    → n * 65536 + all % 65536 ≡ half_with (numbers_of (cells_by rows b)) 3 n
+class_written rows b n all laid there e =
+    let ns = numbers_of (cells_by rows b) in let one = small_fits rows b 0 laid there (omega arith) in let two = small_fits rows b 1 laid there (omega arith) in let six = six_there rows b laid there in
+    third_is (get_or ns 0 0) (get_or ns 1 0) (get_or ns 3 0) n all one two e
+    ∙ sym (λ t. in_half (get_or-set_other ns 3 0 n 0 (λ (w : 0 ≡ 3). absurd (omega (arith, w))) t) (get_or-set_other ns 3 1 n 0 (λ (w : 1 ≡ 3). absurd (omega (arith, w))) t) (get_or-set_same ns 3 n 0 (omega (arith, six)) t))
+
 -- one of the first numbers
-pub number_changes : (rows : List Row) (b k n : ℕ) (laid : AreLaid rows) (there : IsSome (cells_by rows b)) → 3 ≤ k → k < 6 → Changed rows b (7 + k - 2) (number n) (with_number k n)
-number_changes rows b k n laid there high low = changes rows b (7 + k - 2) (number n) (with_number k n) laid there
+pub number_changes : (rows : List Row) (b k n : ℕ) (laid : AreLaid rows) (there : IsSome (cells_by rows b)) → 4 ≤ k → k < 6 → Changed rows b (7 + k - 3) (number n) (with_number k n)
+number_changes rows b k n laid there high low = changes rows b (7 + k - 3) (number n) (with_number k n) laid there
     (λ c s e. (
       set_first_number_at c s k n high low,
-      record { links = s.links; numbers = same_count c.numbers (set c.numbers k n) c.ports c.ports (get_or c.links 7 None) (get_or c.links 7 None) (length-set c.numbers k n) refl refl s.numbers; small = small_set c.numbers k n s.small (let m = some_numbers c s in omega (arith, m, low)) (λ l. absurd (omega (arith, l, high))); few = s.few; narrow = s.narrow },
+      record { links = s.links; numbers = same_count c.numbers (set c.numbers k n) c.ports c.ports (get_or c.links 7 None) (get_or c.links 7 None) (length-set c.numbers k n) refl refl s.numbers; small = small_set c.numbers k n s.small (let m = some_numbers c s in omega (arith, m, low)) (λ l. absurd (omega (arith, l, high))); class = class_set c.numbers k n s.class (let m = some_numbers c s in omega (arith, m, low)) (λ e. absurd (omega (arith, e, high))); few = s.few; narrow = s.narrow },
     ))
 
 -- one of the last numbers of a membrane
-pub count_changes : (rows : List Row) (b k n : ℕ) (laid : AreLaid rows) (there : IsSome (cells_by rows b)) → length (numbers_of (cells_by rows b)) ≡ 8 → 6 ≤ k → k < 8 → Changed rows b (13 + k - 6) (number n) (with_number k n)
-count_changes rows b k n laid there eight h low = changes rows b (13 + k - 6) (number n) (with_number k n) laid there
+pub count_changes : (rows : List Row) (b k n : ℕ) (laid : AreLaid rows) (there : IsSome (cells_by rows b)) → length (numbers_of (cells_by rows b)) ≡ 8 → 6 ≤ k → k < 8 → Changed rows b (12 + k - 6) (number n) (with_number k n)
+count_changes rows b k n laid there eight h low = changes rows b (12 + k - 6) (number n) (with_number k n) laid there
     (λ c s e. (
       set_last_number_word c s (sym (ap (λ (o : Option HeldCell). length (numbers_of o)) e) ∙ eight) k n h low,
-      record { links = s.links; numbers = same_count c.numbers (set c.numbers k n) c.ports c.ports (get_or c.links 7 None) (get_or c.links 7 None) (length-set c.numbers k n) refl refl s.numbers; small = small_set c.numbers k n s.small (let e8 = sym (ap (λ (o : Option HeldCell). length (numbers_of o)) e) ∙ eight in omega (arith, e8, low)) (λ l. absurd (omega (arith, l, h))); few = s.few; narrow = s.narrow },
+      record { links = s.links; numbers = same_count c.numbers (set c.numbers k n) c.ports c.ports (get_or c.links 7 None) (get_or c.links 7 None) (length-set c.numbers k n) refl refl s.numbers; small = small_set c.numbers k n s.small (let e8 = sym (ap (λ (o : Option HeldCell). length (numbers_of o)) e) ∙ eight in omega (arith, e8, low)) (λ l. absurd (omega (arith, l, h))); class = class_set c.numbers k n s.class (let e8 = sym (ap (λ (o : Option HeldCell). length (numbers_of o)) e) ∙ eight in omega (arith, e8, low)) (λ e. absurd (omega (arith, e, h))); few = s.few; narrow = s.narrow },
     ))
 
 -- a cell keeps its shape where a port is another, which leads to a port with a number below 256
@@ -345,13 +370,14 @@ ports_set c s j p small = record {
   links = s.links;
   numbers = same_count c.numbers c.numbers c.ports (set c.ports j p) (get_or c.links 7 None) (get_or c.links 7 None) refl (length-set c.ports j p) refl s.numbers;
   small = s.small;
+  class = s.class;
   few = subst (λ n. n < 256) (sym (length-set c.ports j p)) s.few;
   narrow = narrow_set c.ports j p s.narrow small;
 }
 
 -- where a port leads
-pub to_changes : (rows : List Row) (b j : ℕ) (x : Option ℕ) (laid : AreLaid rows) (there : IsSome (cells_by rows b)) → j < length (ports_of (cells_by rows b)) → Changed rows b (11 + (j * 2 + 0)) (link_to x) (with_to j x)
-to_changes rows b j x laid there low = changes rows b (11 + (j * 2 + 0)) (link_to x) (with_to j x) laid there
+pub to_changes : (rows : List Row) (b j : ℕ) (x : Option ℕ) (laid : AreLaid rows) (there : IsSome (cells_by rows b)) → j < length (ports_of (cells_by rows b)) → Changed rows b (10 + (j * 2 + 0)) (link_to x) (with_to j x)
+to_changes rows b j x laid there low = changes rows b (10 + (j * 2 + 0)) (link_to x) (with_to j x) laid there
     (λ c s e. (
       set_ports_at c s (j * 2 + 0) (link_to x) ∙ ap (λ is. link_items (take 7 c.links) ++ (first_items (take 6 c.numbers) ++ is)) (set_to_at c.ports j x (end_of c) (subst (λ (o : Option HeldCell). j < length (ports_of o)) e low)),
       ports_set c s j (record (get_or c.ports j no_port) { to = x }) (s.narrow j),
@@ -359,20 +385,20 @@ to_changes rows b j x laid there low = changes rows b (11 + (j * 2 + 0)) (link_t
 
 -- the number of the port there
 pub port_changes : (rows : List Row) (b j n : ℕ) (laid : AreLaid rows) (there : IsSome (cells_by rows b)) → j < length (ports_of (cells_by rows b)) → n < 256
-    → Changed rows b (11 + (j * 2 + 1)) (number ((get_or (ports_of (cells_by rows b)) j no_port).mark * 256 + n)) (with_port j n)
-port_changes rows b j n laid there low small = changes rows b (11 + (j * 2 + 1)) (number ((get_or (ports_of (cells_by rows b)) j no_port).mark * 256 + n)) (with_port j n) laid there
+    → Changed rows b (10 + (j * 2 + 1)) (number ((get_or (ports_of (cells_by rows b)) j no_port).mark * 256 + n)) (with_port j n)
+port_changes rows b j n laid there low small = changes rows b (10 + (j * 2 + 1)) (number ((get_or (ports_of (cells_by rows b)) j no_port).mark * 256 + n)) (with_port j n) laid there
     (λ c s e. (
-      ap (λ (o : Option HeldCell). set (cell_items c) (11 + (j * 2 + 1)) (number ((get_or (ports_of o) j no_port).mark * 256 + n))) e ∙ set_ports_at c s (j * 2 + 1) (number ((get_or c.ports j no_port).mark * 256 + n))
+      ap (λ (o : Option HeldCell). set (cell_items c) (10 + (j * 2 + 1)) (number ((get_or (ports_of o) j no_port).mark * 256 + n))) e ∙ set_ports_at c s (j * 2 + 1) (number ((get_or c.ports j no_port).mark * 256 + n))
           ∙ ap (λ is. link_items (take 7 c.links) ++ (first_items (take 6 c.numbers) ++ is)) (set_port_at c.ports j n (end_of c) (subst (λ (o : Option HeldCell). j < length (ports_of o)) e low)),
       ports_set c s j (record (get_or c.ports j no_port) { port = n }) small,
     ))
 
 -- the mark of a port
 pub mark_changes : (rows : List Row) (b j n : ℕ) (laid : AreLaid rows) (there : IsSome (cells_by rows b)) → j < length (ports_of (cells_by rows b))
-    → Changed rows b (11 + (j * 2 + 1)) (number (n * 256 + (get_or (ports_of (cells_by rows b)) j no_port).port)) (with_mark j n)
-mark_changes rows b j n laid there low = changes rows b (11 + (j * 2 + 1)) (number (n * 256 + (get_or (ports_of (cells_by rows b)) j no_port).port)) (with_mark j n) laid there
+    → Changed rows b (10 + (j * 2 + 1)) (number (n * 256 + (get_or (ports_of (cells_by rows b)) j no_port).port)) (with_mark j n)
+mark_changes rows b j n laid there low = changes rows b (10 + (j * 2 + 1)) (number (n * 256 + (get_or (ports_of (cells_by rows b)) j no_port).port)) (with_mark j n) laid there
     (λ c s e. (
-      ap (λ (o : Option HeldCell). set (cell_items c) (11 + (j * 2 + 1)) (number (n * 256 + (get_or (ports_of o) j no_port).port))) e ∙ set_ports_at c s (j * 2 + 1) (number (n * 256 + (get_or c.ports j no_port).port))
+      ap (λ (o : Option HeldCell). set (cell_items c) (10 + (j * 2 + 1)) (number (n * 256 + (get_or (ports_of o) j no_port).port))) e ∙ set_ports_at c s (j * 2 + 1) (number (n * 256 + (get_or c.ports j no_port).port))
           ∙ ap (λ is. link_items (take 7 c.links) ++ (first_items (take 6 c.numbers) ++ is)) (set_mark_at c.ports j n (end_of c) (subst (λ (o : Option HeldCell). j < length (ports_of o)) e low)),
       ports_set c s j (record (get_or c.ports j no_port) { mark = n }) (s.narrow j),
     ))

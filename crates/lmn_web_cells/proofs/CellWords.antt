@@ -1,7 +1,7 @@
 -- The words of a cell, read and written.
-use Rattle.std.proofs.Common.{◌≡◌, ℕ, zero, suc, ◌+◌, ◌-◌, ◌*◌, ◌/◌, ◌%◌, ◌<◌, ◌≤◌, Bool, true, false, List, [], ◌∷◌, ◌++◌, length, take, drop, get_or, set, Option, Some, None, if◌then◌else◌, refl, sym, subst, ap, ◌∙◌, inl, inr, arith, get_or-set_same, get_or-set_other, length-take}
+use Rattle.std.proofs.Common.{◌≡◌, ◌≢◌, ℕ, zero, suc, ◌+◌, ◌-◌, ◌*◌, ◌/◌, ◌%◌, ◌<◌, ◌≤◌, Bool, true, false, List, [], ◌∷◌, ◌++◌, length, take, drop, get_or, set, Option, Some, None, if◌then◌else◌, refl, sym, subst, ap, ◌∙◌, inl, inr, arith, get_or-set_same, get_or-set_other, length-take}
 use Rattle.lmn_web_cells.specs.Rows.{Item, blank, number, halves, with_half, with_half_at, place_of, place_ptr}
-use Rattle.lmn_web_cells.specs.Cells.{HeldPort, HeldCell, link_to, link_items, number_items, both, first_items, port_and_mark, port_items, end_items, cell_items, led_to, first_links, first_numbers, numbers_by, ports_by, is_number, is_membrane, last_numbers, last_link, cell_by, IsShaped, no_port}
+use Rattle.lmn_web_cells.specs.Cells.{HeldPort, HeldCell, link_to, link_items, number_items, in_half, first_items, port_and_mark, port_items, end_items, cell_items, led_to, first_links, first_numbers, numbers_by, ports_by, is_number, is_membrane, last_numbers, last_link, cell_by, IsShaped, no_port}
 use Rattle.std.proofs.Math.Seq.{take-set-lt}
 use Rattle.std.proofs.lemmas.List.{nil_from_length, get_or-drop, take-append-drop, length-drop, take-set-le, drop-set-lt, drop-set-add, get_or-take}
 use Rattle.lmn_base.proofs.Numbers.{no_more}
@@ -68,18 +68,18 @@ six_of (a ∷ b ∷ c ∷ d ∷ []) l = absurd (omega (arith, l))
 six_of (a ∷ b ∷ c ∷ d ∷ e ∷ []) l = absurd (omega (arith, l))
 six_of (a ∷ b ∷ c ∷ d ∷ e ∷ f ∷ ns) l = record { a = a; b = b; c = c; d = d; e = e; f = f; others = ns; are = refl }
 
-four_more : (k : ℕ) → 4 + k ≡ suc (suc (suc (suc k)))
-four_more k = omega arith
+three_more : (k : ℕ) → 3 + k ≡ suc (suc (suc k))
+three_more k = omega arith
 
 -- the words of six numbers
 abbrev six_words : {ns : List ℕ} → Six ns → List Item → List Item
-six_words h rest = halves h.c (both h.a h.b) ∷ number h.d ∷ number h.e ∷ number h.f ∷ rest
+six_words h rest = halves h.c (in_half h.a h.b h.d) ∷ number h.e ∷ number h.f ∷ rest
 
 -- the words behind those of the first numbers
-past_numbers : (ns : List ℕ) (k : ℕ) (rest : List Item) → 6 ≤ length ns → get_or (first_items (take 6 ns) ++ rest) (4 + k) blank ≡ get_or rest k blank
+past_numbers : (ns : List ℕ) (k : ℕ) (rest : List Item) → 6 ≤ length ns → get_or (first_items (take 6 ns) ++ rest) (3 + k) blank ≡ get_or rest k blank
 past_numbers ns k rest l = let h = six_of ns l in
-    subst (λ (ms : List ℕ). get_or (first_items (take 6 ms) ++ rest) (4 + k) blank ≡ get_or rest k blank) (sym h.are)
-    (ap (λ m. get_or (six_words h rest) m blank) (four_more k))
+    subst (λ (ms : List ℕ). get_or (first_items (take 6 ms) ++ rest) (3 + k) blank ≡ get_or rest k blank) (sym h.are)
+    (ap (λ m. get_or (six_words h rest) m blank) (three_more k))
 
 two_more : (k : ℕ) → 2 + k ≡ suc (suc k)
 two_more k = omega arith
@@ -119,10 +119,10 @@ set_past_links [] (suc n) k i rest e = absurd (omega (arith, e))
 set_past_links (x ∷ ls) zero k i rest e = absurd (omega (arith, e))
 set_past_links (x ∷ ls) (suc n) k i rest e = ap (λ m. set (link_items (x ∷ ls) ++ rest) m i) (one_less n k) ∙ ap (λ is. link_to x ∷ is) (set_past_links ls n k i rest (omega (arith, e)))
 
-set_past_numbers : (ns : List ℕ) (k : ℕ) (i : Item) (rest : List Item) → 6 ≤ length ns → set (first_items (take 6 ns) ++ rest) (4 + k) i ≡ first_items (take 6 ns) ++ set rest k i
+set_past_numbers : (ns : List ℕ) (k : ℕ) (i : Item) (rest : List Item) → 6 ≤ length ns → set (first_items (take 6 ns) ++ rest) (3 + k) i ≡ first_items (take 6 ns) ++ set rest k i
 set_past_numbers ns k i rest l = let h = six_of ns l in
-    subst (λ (ms : List ℕ). set (first_items (take 6 ms) ++ rest) (4 + k) i ≡ first_items (take 6 ms) ++ set rest k i) (sym h.are)
-    (ap (λ m. set (six_words h rest) m i) (four_more k))
+    subst (λ (ms : List ℕ). set (first_items (take 6 ms) ++ rest) (3 + k) i ≡ first_items (take 6 ms) ++ set rest k i) (sym h.are)
+    (ap (λ m. set (six_words h rest) m i) (three_more k))
 
 set_past_port : (ps : List HeldPort) (k : ℕ) (i : Item) (rest : List Item) → length ps ≡ 1 → set (port_items ps ++ rest) (2 + k) i ≡ port_items ps ++ set rest k i
 set_past_port [] k i rest e = absurd (omega (arith, e))
@@ -167,16 +167,19 @@ links_gone [] (suc n) k rest e = absurd (omega (arith, e))
 links_gone (x ∷ ls) zero k rest e = absurd (omega (arith, e))
 links_gone (x ∷ ls) (suc n) k rest e = ap (λ m. drop m (link_items (x ∷ ls) ++ rest)) (one_less n k) ∙ links_gone ls n k rest (omega (arith, e))
 
--- two small numbers in one
-pub first_in : (a b : ℕ) → b < 256 → both a b / 256 ≡ a
-first_in a b low = omega (arith, low)
+-- three small numbers in one
+pub first_in : (a b h : ℕ) → a < 256 → b < 256 → in_half a b h / 256 % 256 ≡ a
+first_in a b h low small = omega (arith, low, small)
 
-pub second_in : (a b : ℕ) → b < 256 → both a b % 256 ≡ b
-second_in a b low = omega (arith, low)
+pub second_in : (a b h : ℕ) → a < 256 → b < 256 → in_half a b h % 256 ≡ b
+second_in a b h low small = omega (arith, low, small)
 
-numbers_back : (ns : List ℕ) (rest : List Item) → 6 ≤ length ns → get_or ns 1 0 < 256 → numbers_by (first_items (take 6 ns) ++ rest) ≡ take 6 ns
-numbers_back ns rest l low = let h = six_of ns l in let small : h.b < 256 = subst (λ (ms : List ℕ). get_or ms 1 0 < 256) h.are low in
-    subst (λ (ms : List ℕ). numbers_by (first_items (take 6 ms) ++ rest) ≡ take 6 ms) (sym h.are) (λ t. first_in h.a h.b small t ∷ second_in h.a h.b small t ∷ h.c ∷ h.d ∷ h.e ∷ h.f ∷ [])
+pub third_in : (a b h : ℕ) → a < 256 → b < 256 → in_half a b h / 65536 ≡ h
+third_in a b h low small = omega (arith, low, small)
+
+numbers_back : (ns : List ℕ) (rest : List Item) → 6 ≤ length ns → get_or ns 0 0 < 256 → get_or ns 1 0 < 256 → numbers_by (first_items (take 6 ns) ++ rest) ≡ take 6 ns
+numbers_back ns rest l low small = let h = six_of ns l in let u : h.a < 256 = subst (λ (ms : List ℕ). get_or ms 0 0 < 256) h.are low in let v : h.b < 256 = subst (λ (ms : List ℕ). get_or ms 1 0 < 256) h.are small in
+    subst (λ (ms : List ℕ). numbers_by (first_items (take 6 ms) ++ rest) ≡ take 6 ms) (sym h.are) (λ t. first_in h.a h.b h.d u v t ∷ second_in h.a h.b h.d u v t ∷ h.c ∷ third_in h.a h.b h.d u v t ∷ h.e ∷ h.f ∷ [])
 
 end_numbers_back : (x : Option ℕ) (ns : List ℕ) → length ns ≡ 2 → first_numbers 2 (end_items x ns) ≡ ns
 end_numbers_back x [] e = absurd (omega (arith, e))
@@ -184,10 +187,10 @@ end_numbers_back x (a ∷ []) e = absurd (omega (arith, e))
 end_numbers_back x (a ∷ b ∷ []) e = refl
 end_numbers_back x (a ∷ b ∷ c ∷ ns) e = absurd (omega (arith, e))
 
-numbers_gone : (ns : List ℕ) (k : ℕ) (rest : List Item) → 6 ≤ length ns → drop (4 + k) (first_items (take 6 ns) ++ rest) ≡ drop k rest
+numbers_gone : (ns : List ℕ) (k : ℕ) (rest : List Item) → 6 ≤ length ns → drop (3 + k) (first_items (take 6 ns) ++ rest) ≡ drop k rest
 numbers_gone ns k rest l = let h = six_of ns l in
-    subst (λ (ms : List ℕ). drop (4 + k) (first_items (take 6 ms) ++ rest) ≡ drop k rest) (sym h.are)
-    (ap (λ m. drop m (six_words h rest)) (four_more k))
+    subst (λ (ms : List ℕ). drop (3 + k) (first_items (take 6 ms) ++ rest) ≡ drop k rest) (sym h.are)
+    (ap (λ m. drop m (six_words h rest)) (three_more k))
 
 port_gone : (ps : List HeldPort) (rest : List Item) → length ps ≡ 1 → drop 2 (port_items ps ++ rest) ≡ rest
 port_gone [] rest e = absurd (omega (arith, e))
@@ -208,7 +211,7 @@ ports_back [] x (n ∷ []) low = refl
 ports_back [] x (n ∷ m ∷ ns) low = refl
 ports_back (p ∷ ps) x ns low = λ j. record { to = link_back p.to j; port = port_in p.mark p.port (low 0) j; mark = mark_in p.mark p.port (low 0) j } ∷ ports_back ps x ns (λ k. low (suc k)) j
 
-whole : (is : List Item) → 0 < length is → cell_by is ≡ Some record { links = first_links 7 is ++ last_link is ∷ []; numbers = numbers_by (drop 7 is) ++ last_numbers is; ports = ports_by (drop 11 is) }
+whole : (is : List Item) → 0 < length is → cell_by is ≡ Some record { links = first_links 7 is ++ last_link is ∷ []; numbers = numbers_by (drop 7 is) ++ last_numbers is; ports = ports_by (drop 10 is) }
 whole [] l = absurd (omega (arith, l))
 whole (i ∷ is) l = refl
 
@@ -218,8 +221,8 @@ count_links : (ls : List (Option ℕ)) (rest : List Item) → length (link_items
 count_links [] rest = omega arith
 count_links (x ∷ ls) rest = let r = count_links ls rest in omega (arith, r)
 
-count_numbers : (ns : List ℕ) (rest : List Item) → 6 ≤ length ns → length (first_items (take 6 ns) ++ rest) ≡ 4 + length rest
-count_numbers ns rest l = let h = six_of ns l in subst (λ (ms : List ℕ). length (first_items (take 6 ms) ++ rest) ≡ 4 + length rest) (sym h.are) (omega arith)
+count_numbers : (ns : List ℕ) (rest : List Item) → 6 ≤ length ns → length (first_items (take 6 ns) ++ rest) ≡ 3 + length rest
+count_numbers ns rest l = let h = six_of ns l in subst (λ (ms : List ℕ). length (first_items (take 6 ms) ++ rest) ≡ 3 + length rest) (sym h.are) (omega arith)
 
 count_ports : (ps : List HeldPort) (rest : List Item) → length (port_items ps ++ rest) ≡ length ps * 2 + length rest
 count_ports [] rest = omega arith
@@ -243,7 +246,7 @@ none_behind : (c : HeldCell) → length c.numbers ≡ 6 → end_of c ≡ []
 none_behind c e = let m = length-drop 6 c.numbers in no_end (get_or c.links 7 None) (drop 6 c.numbers) (omega (arith, m, e))
 
 -- how many words a cell has
-pub word_count : (c : HeldCell) → IsShaped c → length (cell_items c) ≡ 11 + length c.ports * 2 + length (end_of c)
+pub word_count : (c : HeldCell) → IsShaped c → length (cell_items c) ≡ 10 + length c.ports * 2 + length (end_of c)
 word_count c s =
     let a = count_links (take 7 c.links) (behind_links c) in let b = count_numbers c.numbers (behind_numbers c) (some_numbers c s) in let d = count_ports c.ports (end_of c) in
     let e = seven c s in omega (arith, a, b, d, e)
@@ -267,8 +270,8 @@ a_membrane [] x (n ∷ ns) one two = absurd (omega (arith, one))
 a_membrane (p ∷ []) x (n ∷ ns) one two = refl
 a_membrane (p ∷ q ∷ ps) x (n ∷ ns) one two = absurd (omega (arith, one))
 
-word_behind_port : (c : HeldCell) → IsShaped c → get_or (cell_items c) 13 blank ≡ get_or (behind_numbers c) 2 blank
-word_behind_port c s = past_links (take 7 c.links) 7 6 (behind_links c) (seven c s) ∙ past_numbers c.numbers 2 (behind_numbers c) (some_numbers c s)
+word_behind_port : (c : HeldCell) → IsShaped c → get_or (cell_items c) 12 blank ≡ get_or (behind_numbers c) 2 blank
+word_behind_port c s = past_links (take 7 c.links) 7 5 (behind_links c) (seven c s) ∙ past_numbers c.numbers 2 (behind_numbers c) (some_numbers c s)
 
 tells_atom : (c : HeldCell) → IsShaped c → length c.numbers ≡ 6 → is_membrane (cell_items c) ≡ false
 tells_atom c s six = ap is_number (word_behind_port c s ∙ ap (λ (is : List Item). get_or (port_items c.ports ++ is) 2 blank) (none_behind c six)) ∙ no_membrane c.ports
@@ -277,25 +280,25 @@ tells_membrane : (c : HeldCell) → IsShaped c → length c.numbers ≡ 8 → is
 tells_membrane c s eight = ap is_number (word_behind_port c s) ∙ a_membrane c.ports (get_or c.links 7 None) (drop 6 c.numbers) (one_port c s eight) (two_behind c eight)
 
 -- the last link of a membrane
-pub last_link_word : (c : HeldCell) → IsShaped c → length c.numbers ≡ 8 → get_or (cell_items c) 15 blank ≡ link_to (get_or c.links 7 None)
-last_link_word c s eight = past_links (take 7 c.links) 7 8 (behind_links c) (seven c s) ∙ past_numbers c.numbers 4 (behind_numbers c) (some_numbers c s)
+pub last_link_word : (c : HeldCell) → IsShaped c → length c.numbers ≡ 8 → get_or (cell_items c) 14 blank ≡ link_to (get_or c.links 7 None)
+last_link_word c s eight = past_links (take 7 c.links) 7 7 (behind_links c) (seven c s) ∙ past_numbers c.numbers 4 (behind_numbers c) (some_numbers c s)
     ∙ past_port c.ports 2 (end_of c) (one_port c s eight) ∙ end_link_at (get_or c.links 7 None) (drop 6 c.numbers) (two_behind c eight)
 
 -- the last numbers of a membrane are read where its row has their words
 last_back : (c : HeldCell) → IsShaped c → last_numbers (cell_items c) ≡ drop 6 c.numbers
 last_back c s = elim s.numbers [
   | inl six ↦ (let e = six.0 in let m = length-drop 6 c.numbers in
-      ap (λ (t : Bool). if t then first_numbers 2 (drop 13 (cell_items c)) else []) (tells_atom c s six.0) ∙ sym (nil_from_length (drop 6 c.numbers) (omega (arith, m, e))))
-  | inr eight ↦ ap (λ (t : Bool). if t then first_numbers 2 (drop 13 (cell_items c)) else []) (tells_membrane c s eight.0)
-      ∙ ap (first_numbers 2) (links_gone (take 7 c.links) 7 6 (behind_links c) (seven c s) ∙ numbers_gone c.numbers 2 (behind_numbers c) (some_numbers c s) ∙ port_gone c.ports (end_of c) eight.1)
+      ap (λ (t : Bool). if t then first_numbers 2 (drop 12 (cell_items c)) else []) (tells_atom c s six.0) ∙ sym (nil_from_length (drop 6 c.numbers) (omega (arith, m, e))))
+  | inr eight ↦ ap (λ (t : Bool). if t then first_numbers 2 (drop 12 (cell_items c)) else []) (tells_membrane c s eight.0)
+      ∙ ap (first_numbers 2) (links_gone (take 7 c.links) 7 5 (behind_links c) (seven c s) ∙ numbers_gone c.numbers 2 (behind_numbers c) (some_numbers c s) ∙ port_gone c.ports (end_of c) eight.1)
       ∙ end_numbers_back (get_or c.links 7 None) (drop 6 c.numbers) (two_behind c eight.0)
 ]
 
 -- and so is its last link
 last_link_back : (c : HeldCell) → IsShaped c → last_link (cell_items c) ≡ get_or c.links 7 None
 last_link_back c s = elim s.numbers [
-  | inl six ↦ ap (λ (t : Bool). if t then led_to (get_or (cell_items c) 15 blank) else None) (tells_atom c s six.0) ∙ sym six.1
-  | inr eight ↦ ap (λ (t : Bool). if t then led_to (get_or (cell_items c) 15 blank) else None) (tells_membrane c s eight.0) ∙ ap led_to (last_link_word c s eight.0) ∙ link_back (get_or c.links 7 None)
+  | inl six ↦ ap (λ (t : Bool). if t then led_to (get_or (cell_items c) 14 blank) else None) (tells_atom c s six.0) ∙ sym six.1
+  | inr eight ↦ ap (λ (t : Bool). if t then led_to (get_or (cell_items c) 14 blank) else None) (tells_membrane c s eight.0) ∙ ap led_to (last_link_word c s eight.0) ∙ link_back (get_or c.links 7 None)
 ]
 
 all_but_one : (n : ℕ) (ls : List (Option ℕ)) → length ls ≡ suc n → take n ls ++ get_or ls n None ∷ [] ≡ ls
@@ -311,12 +314,12 @@ some_words (x ∷ ls) rest e = omega arith
 -- the words of a cell stand for it
 pub cell_back : (c : HeldCell) → IsShaped c → cell_by (cell_items c) ≡ Some c
 cell_back c s =
-    let first : numbers_by (drop 7 (cell_items c)) ≡ take 6 c.numbers = ap numbers_by (links_gone (take 7 c.links) 7 0 (behind_links c) (seven c s)) ∙ numbers_back c.numbers (behind_numbers c) (some_numbers c s) (s.small 1 (omega arith)) in
+    let first : numbers_by (drop 7 (cell_items c)) ≡ take 6 c.numbers = ap numbers_by (links_gone (take 7 c.links) 7 0 (behind_links c) (seven c s)) ∙ numbers_back c.numbers (behind_numbers c) (some_numbers c s) (s.small 0 (omega arith)) (s.small 1 (omega arith)) in
     whole (cell_items c) (some_words (take 7 c.links) (behind_links c) (seven c s))
     ∙ (λ j. Some record {
       links = ((λ t. links_back (take 7 c.links) 7 (behind_links c) (seven c s) t ++ last_link_back c s t ∷ []) ∙ all_but_one 7 c.links s.links) j;
       numbers = ((λ t. first t ++ last_back c s t) ∙ take-append-drop 6 c.numbers) j;
-      ports = (ap ports_by (links_gone (take 7 c.links) 7 4 (behind_links c) (seven c s) ∙ numbers_gone c.numbers 0 (behind_numbers c) (some_numbers c s)) ∙ ports_back c.ports (get_or c.links 7 None) (drop 6 c.numbers) s.narrow) j;
+      ports = (ap ports_by (links_gone (take 7 c.links) 7 3 (behind_links c) (seven c s) ∙ numbers_gone c.numbers 0 (behind_numbers c) (some_numbers c s)) ∙ ports_back c.ports (get_or c.links 7 None) (drop 6 c.numbers) s.narrow) j;
     })
 
 -- Ports
@@ -366,88 +369,92 @@ narrow_set (q ∷ ps) (suc j) p low l zero = low 0
 narrow_set (q ∷ ps) (suc j) p low l (suc k) = narrow_set ps j p (λ m. low (suc m)) l k
 
 -- behind the links and the first numbers
-eleven : (m : ℕ) → 11 + m ≡ 7 + (4 + m)
-eleven m = omega arith
+ten : (m : ℕ) → 10 + m ≡ 7 + (3 + m)
+ten m = omega arith
 
 -- a word of the ports, among all words
-pub ports_at : (c : HeldCell) → IsShaped c → (m : ℕ) → get_or (cell_items c) (11 + m) blank ≡ get_or (behind_numbers c) m blank
-ports_at c s m = ap (λ n. get_or (cell_items c) n blank) (eleven m) ∙ past_links (take 7 c.links) 7 (4 + m) (behind_links c) (seven c s) ∙ past_numbers c.numbers m (behind_numbers c) (some_numbers c s)
+pub ports_at : (c : HeldCell) → IsShaped c → (m : ℕ) → get_or (cell_items c) (10 + m) blank ≡ get_or (behind_numbers c) m blank
+ports_at c s m = ap (λ n. get_or (cell_items c) n blank) (ten m) ∙ past_links (take 7 c.links) 7 (3 + m) (behind_links c) (seven c s) ∙ past_numbers c.numbers m (behind_numbers c) (some_numbers c s)
 
 -- a word of the ports is written, among all words
-pub set_ports_at : (c : HeldCell) → IsShaped c → (m : ℕ) (i : Item) → set (cell_items c) (11 + m) i ≡ link_items (take 7 c.links) ++ (first_items (take 6 c.numbers) ++ set (behind_numbers c) m i)
-set_ports_at c s m i = ap (λ n. set (cell_items c) n i) (eleven m) ∙ set_past_links (take 7 c.links) 7 (4 + m) i (behind_links c) (seven c s)
+pub set_ports_at : (c : HeldCell) → IsShaped c → (m : ℕ) (i : Item) → set (cell_items c) (10 + m) i ≡ link_items (take 7 c.links) ++ (first_items (take 6 c.numbers) ++ set (behind_numbers c) m i)
+set_ports_at c s m i = ap (λ n. set (cell_items c) n i) (ten m) ∙ set_past_links (take 7 c.links) 7 (3 + m) i (behind_links c) (seven c s)
     ∙ ap (λ is. link_items (take 7 c.links) ++ is) (set_past_numbers c.numbers m i (behind_numbers c) (some_numbers c s))
 
 -- Numbers
 
--- the word of the first three, where six are written out
-three_among : (ns : List ℕ) (rest : List Item) → 6 ≤ length ns → get_or (first_items (take 6 ns) ++ rest) 0 blank ≡ halves (get_or ns 2 0) (both (get_or ns 0 0) (get_or ns 1 0))
-three_among ns rest l = let h = six_of ns l in subst (λ (ms : List ℕ). get_or (first_items (take 6 ms) ++ rest) 0 blank ≡ halves (get_or ms 2 0) (both (get_or ms 0 0) (get_or ms 1 0))) (sym h.are) refl
+-- the word of the first four, where six are written out
+four_among : (ns : List ℕ) (rest : List Item) → 6 ≤ length ns → get_or (first_items (take 6 ns) ++ rest) 0 blank ≡ halves (get_or ns 2 0) (in_half (get_or ns 0 0) (get_or ns 1 0) (get_or ns 3 0))
+four_among ns rest l = let h = six_of ns l in subst (λ (ms : List ℕ). get_or (first_items (take 6 ms) ++ rest) 0 blank ≡ halves (get_or ms 2 0) (in_half (get_or ms 0 0) (get_or ms 1 0) (get_or ms 3 0))) (sym h.are) refl
 
--- it is written where one of the small ones is another
-set_three_among : (ns : List ℕ) (k n : ℕ) (rest : List Item) → 6 ≤ length ns → k < 2
-    → set (first_items (take 6 ns) ++ rest) 0 (halves (get_or ns 2 0) (both (get_or (set ns k n) 0 0) (get_or (set ns k n) 1 0))) ≡ first_items (take 6 (set ns k n)) ++ rest
-set_three_among ns k n rest l low = let h = six_of ns l in
-    subst (λ (ms : List ℕ). set (first_items (take 6 ms) ++ rest) 0 (halves (get_or ms 2 0) (both (get_or (set ms k n) 0 0) (get_or (set ms k n) 1 0))) ≡ first_items (take 6 (set ms k n)) ++ rest) (sym h.are) (by h k low)
+-- the small numbers as one, where one of them is another
+abbrev pub half_with : List ℕ → ℕ → ℕ → ℕ
+half_with ns k n = in_half (get_or (set ns k n) 0 0) (get_or (set ns k n) 1 0) (get_or (set ns k n) 3 0)
+
+-- the word is written then
+set_four_among : (ns : List ℕ) (k n : ℕ) (rest : List Item) → 6 ≤ length ns → k < 4 → k ≢ 2 → set (first_items (take 6 ns) ++ rest) 0 (halves (get_or ns 2 0) (half_with ns k n)) ≡ first_items (take 6 (set ns k n)) ++ rest
+set_four_among ns k n rest l low other = let h = six_of ns l in
+    subst (λ (ms : List ℕ). set (first_items (take 6 ms) ++ rest) 0 (halves (get_or ms 2 0) (half_with ms k n)) ≡ first_items (take 6 (set ms k n)) ++ rest) (sym h.are) (by h k low other)
   where
-    by : (h : Six ns) (k : ℕ) → k < 2 → set (six_words h rest) 0 (halves h.c (both (get_or (set (h.a ∷ h.b ∷ h.c ∷ h.d ∷ h.e ∷ h.f ∷ h.others) k n) 0 0) (get_or (set (h.a ∷ h.b ∷ h.c ∷ h.d ∷ h.e ∷ h.f ∷ h.others) k n) 1 0)))
-        ≡ first_items (take 6 (set (h.a ∷ h.b ∷ h.c ∷ h.d ∷ h.e ∷ h.f ∷ h.others) k n)) ++ rest
-    by h zero low = refl
-    by h (suc zero) low = refl
-    by h (suc (suc k)) low = absurd (omega (arith, low))
+    by : (h : Six ns) (k : ℕ) → k < 4 → k ≢ 2 → set (six_words h rest) 0 (halves h.c (half_with (h.a ∷ h.b ∷ h.c ∷ h.d ∷ h.e ∷ h.f ∷ h.others) k n)) ≡ first_items (take 6 (set (h.a ∷ h.b ∷ h.c ∷ h.d ∷ h.e ∷ h.f ∷ h.others) k n)) ++ rest
+    by h zero low other = refl
+    by h (suc zero) low other = refl
+    by h (suc (suc zero)) low other = absurd (other refl)
+    by h (suc (suc (suc zero))) low other = refl
+    by h (suc (suc (suc (suc k)))) low other = absurd (omega (arith, low))
 
--- what is shown of the three others
-whole_among : (a b c d e f k : ℕ) (ns : List ℕ) (rest : List Item) → 3 ≤ k → k < 6 → get_or (halves c (both a b) ∷ number d ∷ number e ∷ number f ∷ rest) (k - 2) blank ≡ number (get_or (a ∷ b ∷ c ∷ d ∷ e ∷ f ∷ ns) k 0)
+-- what is shown of the two others
+whole_among : (a b c d e f k : ℕ) (ns : List ℕ) (rest : List Item) → 4 ≤ k → k < 6 → get_or (halves c (in_half a b d) ∷ number e ∷ number f ∷ rest) (k - 3) blank ≡ number (get_or (a ∷ b ∷ c ∷ d ∷ e ∷ f ∷ ns) k 0)
 whole_among a b c d e f zero ns rest h l = absurd (omega (arith, h))
 whole_among a b c d e f (suc zero) ns rest h l = absurd (omega (arith, h))
 whole_among a b c d e f (suc (suc zero)) ns rest h l = absurd (omega (arith, h))
-whole_among a b c d e f (suc (suc (suc zero))) ns rest h l = refl
+whole_among a b c d e f (suc (suc (suc zero))) ns rest h l = absurd (omega (arith, h))
 whole_among a b c d e f (suc (suc (suc (suc zero)))) ns rest h l = refl
 whole_among a b c d e f (suc (suc (suc (suc (suc zero))))) ns rest h l = refl
 whole_among a b c d e f (suc (suc (suc (suc (suc (suc k)))))) ns rest h l = absurd (omega (arith, l))
 
-set_whole_among : (a b c d e f k n : ℕ) (ns : List ℕ) (rest : List Item) → 3 ≤ k → k < 6
-    → set (halves c (both a b) ∷ number d ∷ number e ∷ number f ∷ rest) (k - 2) (number n) ≡ first_items (take 6 (set (a ∷ b ∷ c ∷ d ∷ e ∷ f ∷ ns) k n)) ++ rest
+set_whole_among : (a b c d e f k n : ℕ) (ns : List ℕ) (rest : List Item) → 4 ≤ k → k < 6
+    → set (halves c (in_half a b d) ∷ number e ∷ number f ∷ rest) (k - 3) (number n) ≡ first_items (take 6 (set (a ∷ b ∷ c ∷ d ∷ e ∷ f ∷ ns) k n)) ++ rest
 set_whole_among a b c d e f zero n ns rest h l = absurd (omega (arith, h))
 set_whole_among a b c d e f (suc zero) n ns rest h l = absurd (omega (arith, h))
 set_whole_among a b c d e f (suc (suc zero)) n ns rest h l = absurd (omega (arith, h))
-set_whole_among a b c d e f (suc (suc (suc zero))) n ns rest h l = refl
+set_whole_among a b c d e f (suc (suc (suc zero))) n ns rest h l = absurd (omega (arith, h))
 set_whole_among a b c d e f (suc (suc (suc (suc zero)))) n ns rest h l = refl
 set_whole_among a b c d e f (suc (suc (suc (suc (suc zero))))) n ns rest h l = refl
 set_whole_among a b c d e f (suc (suc (suc (suc (suc (suc k)))))) n ns rest h l = absurd (omega (arith, l))
 
 -- the word of the index and the small numbers
-pub number_word_at : (c : HeldCell) → IsShaped c → get_or (cell_items c) 7 blank ≡ halves (get_or c.numbers 2 0) (both (get_or c.numbers 0 0) (get_or c.numbers 1 0))
-number_word_at c s = past_links (take 7 c.links) 7 0 (behind_links c) (seven c s) ∙ three_among c.numbers (behind_numbers c) (some_numbers c s)
+pub number_word_at : (c : HeldCell) → IsShaped c → get_or (cell_items c) 7 blank ≡ halves (get_or c.numbers 2 0) (in_half (get_or c.numbers 0 0) (get_or c.numbers 1 0) (get_or c.numbers 3 0))
+number_word_at c s = past_links (take 7 c.links) 7 0 (behind_links c) (seven c s) ∙ four_among c.numbers (behind_numbers c) (some_numbers c s)
 
 -- the numbers behind the first six, where one of those is another
 same_behind : (c : HeldCell) (k n : ℕ) → k < 6 → end_of (record c { numbers = set c.numbers k n }) ≡ end_of c
 same_behind c k n low = ap (end_items (get_or c.links 7 None)) (drop-set-lt 6 c.numbers k n low)
 
 -- it is written where one of the small numbers is another
-pub set_small_number_at : (c : HeldCell) → IsShaped c → (k n : ℕ) → k < 2 → with_half_at 15 (both (get_or (set c.numbers k n) 0 0) (get_or (set c.numbers k n) 1 0)) (cell_items c) ≡ cell_items (record c { numbers = set c.numbers k n })
-set_small_number_at c s k n low = let all = both (get_or (set c.numbers k n) 0 0) (get_or (set c.numbers k n) 1 0) in
+pub set_small_number_at : (c : HeldCell) → IsShaped c → (k n : ℕ) → k < 4 → k ≢ 2 → with_half_at 15 (half_with c.numbers k n) (cell_items c) ≡ cell_items (record c { numbers = set c.numbers k n })
+set_small_number_at c s k n low other = let all = half_with c.numbers k n in
     ap (λ i. set (cell_items c) 7 (with_half 1 all i)) (number_word_at c s) ∙ set_past_links (take 7 c.links) 7 0 (halves (get_or c.numbers 2 0) all) (behind_links c) (seven c s)
-    ∙ ap (λ is. link_items (take 7 c.links) ++ is) (set_three_among c.numbers k n (behind_numbers c) (some_numbers c s) low ∙ ap (λ is. first_items (take 6 (set c.numbers k n)) ++ (port_items c.ports ++ is)) (sym (same_behind c k n (omega (arith, low)))))
+    ∙ ap (λ is. link_items (take 7 c.links) ++ is) (set_four_among c.numbers k n (behind_numbers c) (some_numbers c s) low other ∙ ap (λ is. first_items (take 6 (set c.numbers k n)) ++ (port_items c.ports ++ is)) (sym (same_behind c k n (omega (arith, low)))))
 
-two_before : (k : ℕ) → 3 ≤ k → 7 + k - 2 ≡ 7 + (k - 2)
-two_before k h = omega (arith, h)
+three_before : (k : ℕ) → 4 ≤ k → 7 + k - 3 ≡ 7 + (k - 3)
+three_before k h = omega (arith, h)
 
--- the word of one of the other three
-pub first_number_at : (c : HeldCell) → IsShaped c → (k : ℕ) → 3 ≤ k → k < 6 → get_or (cell_items c) (7 + k - 2) blank ≡ number (get_or c.numbers k 0)
+-- the word of one of the other two
+pub first_number_at : (c : HeldCell) → IsShaped c → (k : ℕ) → 4 ≤ k → k < 6 → get_or (cell_items c) (7 + k - 3) blank ≡ number (get_or c.numbers k 0)
 first_number_at c s k high low = let h = six_of c.numbers (some_numbers c s) in
-    ap (λ m. get_or (cell_items c) m blank) (two_before k high) ∙ past_links (take 7 c.links) 7 (k - 2) (behind_links c) (seven c s)
-    ∙ subst (λ (ns : List ℕ). get_or (first_items (take 6 ns) ++ behind_numbers c) (k - 2) blank ≡ number (get_or ns k 0)) (sym h.are) (whole_among h.a h.b h.c h.d h.e h.f k h.others (behind_numbers c) high low)
+    ap (λ m. get_or (cell_items c) m blank) (three_before k high) ∙ past_links (take 7 c.links) 7 (k - 3) (behind_links c) (seven c s)
+    ∙ subst (λ (ns : List ℕ). get_or (first_items (take 6 ns) ++ behind_numbers c) (k - 3) blank ≡ number (get_or ns k 0)) (sym h.are) (whole_among h.a h.b h.c h.d h.e h.f k h.others (behind_numbers c) high low)
 
 -- it is written
-pub set_first_number_at : (c : HeldCell) → IsShaped c → (k n : ℕ) → 3 ≤ k → k < 6 → set (cell_items c) (7 + k - 2) (number n) ≡ cell_items (record c { numbers = set c.numbers k n })
+pub set_first_number_at : (c : HeldCell) → IsShaped c → (k n : ℕ) → 4 ≤ k → k < 6 → set (cell_items c) (7 + k - 3) (number n) ≡ cell_items (record c { numbers = set c.numbers k n })
 set_first_number_at c s k n high low = let h = six_of c.numbers (some_numbers c s) in
-    ap (λ m. set (cell_items c) m (number n)) (two_before k high) ∙ set_past_links (take 7 c.links) 7 (k - 2) (number n) (behind_links c) (seven c s)
-    ∙ ap (λ is. link_items (take 7 c.links) ++ is) (subst (λ (ns : List ℕ). set (first_items (take 6 ns) ++ behind_numbers c) (k - 2) (number n) ≡ first_items (take 6 (set ns k n)) ++ behind_numbers c) (sym h.are) (set_whole_among h.a h.b h.c h.d h.e h.f k n h.others (behind_numbers c) high low)
+    ap (λ m. set (cell_items c) m (number n)) (three_before k high) ∙ set_past_links (take 7 c.links) 7 (k - 3) (number n) (behind_links c) (seven c s)
+    ∙ ap (λ is. link_items (take 7 c.links) ++ is) (subst (λ (ns : List ℕ). set (first_items (take 6 ns) ++ behind_numbers c) (k - 3) (number n) ≡ first_items (take 6 (set ns k n)) ++ behind_numbers c) (sym h.are) (set_whole_among h.a h.b h.c h.d h.e h.f k n h.others (behind_numbers c) high low)
     ∙ ap (λ is. first_items (take 6 (set c.numbers k n)) ++ (port_items c.ports ++ is)) (sym (same_behind c k n low)))
 
 -- behind the port of a membrane
-behind_port : (k : ℕ) → 6 ≤ k → 13 + k - 6 ≡ 7 + (4 + (2 + (k - 6)))
+behind_port : (k : ℕ) → 6 ≤ k → 12 + k - 6 ≡ 7 + (3 + (2 + (k - 6)))
 behind_port k h = omega (arith, h)
 
 from_six : (k : ℕ) → 6 ≤ k → 6 + (k - 6) ≡ k
@@ -457,14 +464,14 @@ few_behind : (c : HeldCell) (k : ℕ) → length c.numbers ≡ 8 → 6 ≤ k →
 few_behind c k e h low = let m = length-drop 6 c.numbers in omega (arith, m, e, h, low)
 
 -- the word of one of the numbers behind it
-pub last_number_word : (c : HeldCell) → IsShaped c → length c.numbers ≡ 8 → (k : ℕ) → 6 ≤ k → k < 8 → get_or (cell_items c) (13 + k - 6) blank ≡ number (get_or c.numbers k 0)
-last_number_word c s e k h low = ap (λ n. get_or (cell_items c) n blank) (behind_port k h) ∙ past_links (take 7 c.links) 7 (4 + (2 + (k - 6))) (behind_links c) (seven c s)
+pub last_number_word : (c : HeldCell) → IsShaped c → length c.numbers ≡ 8 → (k : ℕ) → 6 ≤ k → k < 8 → get_or (cell_items c) (12 + k - 6) blank ≡ number (get_or c.numbers k 0)
+last_number_word c s e k h low = ap (λ n. get_or (cell_items c) n blank) (behind_port k h) ∙ past_links (take 7 c.links) 7 (3 + (2 + (k - 6))) (behind_links c) (seven c s)
     ∙ past_numbers c.numbers (2 + (k - 6)) (behind_numbers c) (some_numbers c s) ∙ past_port c.ports (k - 6) (end_of c) (one_port c s e)
     ∙ end_number_at (get_or c.links 7 None) (drop 6 c.numbers) (k - 6) (few_behind c k e h low) ∙ ap number (get_or-drop 6 c.numbers (k - 6) 0 ∙ ap (λ n. get_or c.numbers n 0) (from_six k h))
 
 -- one of them is written
-pub set_last_number_word : (c : HeldCell) → IsShaped c → length c.numbers ≡ 8 → (k n : ℕ) → 6 ≤ k → k < 8 → set (cell_items c) (13 + k - 6) (number n) ≡ cell_items (record c { numbers = set c.numbers k n })
-set_last_number_word c s e k n h low = ap (λ m. set (cell_items c) m (number n)) (behind_port k h) ∙ set_past_links (take 7 c.links) 7 (4 + (2 + (k - 6))) (number n) (behind_links c) (seven c s)
+pub set_last_number_word : (c : HeldCell) → IsShaped c → length c.numbers ≡ 8 → (k n : ℕ) → 6 ≤ k → k < 8 → set (cell_items c) (12 + k - 6) (number n) ≡ cell_items (record c { numbers = set c.numbers k n })
+set_last_number_word c s e k n h low = ap (λ m. set (cell_items c) m (number n)) (behind_port k h) ∙ set_past_links (take 7 c.links) 7 (3 + (2 + (k - 6))) (number n) (behind_links c) (seven c s)
     ∙ ap (λ is. link_items (take 7 c.links) ++ is) (set_past_numbers c.numbers (2 + (k - 6)) (number n) (behind_numbers c) (some_numbers c s)
     ∙ ap (λ is. first_items (take 6 c.numbers) ++ is) (set_past_port c.ports (k - 6) (number n) (end_of c) (one_port c s e)
     ∙ ap (λ is. port_items c.ports ++ is) (set_end_number_at (get_or c.links 7 None) (drop 6 c.numbers) (k - 6) n (few_behind c k e h low)))
@@ -483,9 +490,9 @@ set_first_link_at c s k x low = let e = seven c s in
     ∙ (λ t. link_items (sym (take-set-lt 7 c.links k x low) t) ++ (first_items (take 6 c.numbers) ++ (port_items c.ports ++ end_items (sym (get_or-set_other c.links k 7 x None (λ (w : 7 ≡ k). absurd (omega (arith, w, low)))) t) (drop 6 c.numbers))))
 
 -- and so is the last one
-pub set_last_link_word : (c : HeldCell) → IsShaped c → length c.numbers ≡ 8 → (x : Option ℕ) → set (cell_items c) 15 (link_to x) ≡ cell_items (record c { links = set c.links 7 x })
+pub set_last_link_word : (c : HeldCell) → IsShaped c → length c.numbers ≡ 8 → (x : Option ℕ) → set (cell_items c) 14 (link_to x) ≡ cell_items (record c { links = set c.links 7 x })
 set_last_link_word c s eight x = let e = s.links in
-    set_past_links (take 7 c.links) 7 8 (link_to x) (behind_links c) (seven c s)
+    set_past_links (take 7 c.links) 7 7 (link_to x) (behind_links c) (seven c s)
     ∙ ap (λ is. link_items (take 7 c.links) ++ is) (set_past_numbers c.numbers 4 (link_to x) (behind_numbers c) (some_numbers c s)
     ∙ ap (λ is. first_items (take 6 c.numbers) ++ is) (set_past_port c.ports 2 (link_to x) (end_of c) (one_port c s eight)
     ∙ ap (λ is. port_items c.ports ++ is) (set_end_link_at (get_or c.links 7 None) x (drop 6 c.numbers) (two_behind c eight))))

@@ -83,7 +83,7 @@ more_ports (suc n) = ap (λ is. link_to None ∷ number 0 ∷ is) (more_ports n)
 abbrev head_ports : ℕ → ℕ → List Item
 head_ports i j = blank_links 7 ++ (blank_numbers i ++ blank_ports j)
 
-count_head : (i j : ℕ) → length (head_ports i j) ≡ 11 + j * 2
+count_head : (i j : ℕ) → length (head_ports i j) ≡ 10 + j * 2
 count_head i j = let n = count_ports j in omega (arith, n)
 
 abbrev port_one : ℕ → ℕ → List Item
@@ -93,15 +93,15 @@ count_more : (xs : List Item) (i : Item) → length (xs ++ i ∷ []) ≡ suc (le
 count_more [] i = refl
 count_more (x ∷ xs) i = ap suc (count_more xs i)
 
-count_one : (i j : ℕ) → length (port_one i j) ≡ 11 + j * 2 + 1
+count_one : (i j : ℕ) → length (port_one i j) ≡ 10 + j * 2 + 1
 count_one i j = let a = count_more (head_ports i j) (link_to None) in let b = count_head i j in omega (arith, a, b)
 
-ports_one : (old rows rows' : List Row) (b i j left : ℕ) → Filled old rows b (head_ports i j) (replicate (suc left) blank) → rows' ≡ with_items b (set (items_in rows b) (11 + j * 2) (link_to None)) rows → Filled old rows' b (port_one i j) (replicate left blank)
-ports_one old rows rows' b i j left f r = next old rows rows' b (head_ports i j) (replicate left blank) (11 + j * 2) (link_to None) blank f (sym (count_head i j)) r
+ports_one : (old rows rows' : List Row) (b i j left : ℕ) → Filled old rows b (head_ports i j) (replicate (suc left) blank) → rows' ≡ with_items b (set (items_in rows b) (10 + j * 2) (link_to None)) rows → Filled old rows' b (port_one i j) (replicate left blank)
+ports_one old rows rows' b i j left f r = next old rows rows' b (head_ports i j) (replicate left blank) (10 + j * 2) (link_to None) blank f (sym (count_head i j)) r
 
-ports_two : (old rows rows' : List Row) (b i j left : ℕ) → Filled old rows b (port_one i j) (replicate (suc left) blank) → rows' ≡ with_items b (set (items_in rows b) (11 + j * 2 + 1) (number 0)) rows → Filled old rows' b (head_ports i (suc j)) (replicate left blank)
+ports_two : (old rows rows' : List Row) (b i j left : ℕ) → Filled old rows b (port_one i j) (replicate (suc left) blank) → rows' ≡ with_items b (set (items_in rows b) (10 + j * 2 + 1) (number 0)) rows → Filled old rows' b (head_ports i (suc j)) (replicate left blank)
 ports_two old rows rows' b i j left f r =
-    subst (λ done. Filled old rows' b (blank_links 7 ++ (blank_numbers i ++ done)) (replicate left blank)) (more_ports j) (next old rows rows' b (port_one i j) (replicate left blank) (11 + j * 2 + 1) (number 0) blank f (sym (count_one i j)) r)
+    subst (λ done. Filled old rows' b (blank_links 7 ++ (blank_numbers i ++ done)) (replicate left blank)) (more_ports j) (next old rows rows' b (port_one i j) (replicate left blank) (10 + j * 2 + 1) (number 0) blank f (sym (count_one i j)) r)
 
 begun : (old : List Row) (b : ℕ) (done rest : List Item) → 0 < length done + length rest → items_in old b ≡ done ++ rest → Filled old old b done rest
 begun old b done rest l e = record {
@@ -154,31 +154,31 @@ blanks_some : (left : ℕ) → 0 < left → 0 < length (replicate left blank)
 blanks_some left l = let n = length-replicate left blank in omega (arith, n, l)
 
 -- the first word of the next port is one of the row
-pub ports_there : (old rows : List Row) (b i p j : ℕ) → PortsDone old rows b i p j → j < p → 11 + j * 2 < length (items_in rows b)
-ports_there old rows b i p j d low = let e = d.1 in next_there old rows b (head_ports i j) (replicate d.0 blank) (11 + j * 2) d.2 (sym (count_head i j)) (blanks_some d.0 (omega (arith, e, low)))
+pub ports_there : (old rows : List Row) (b i p j : ℕ) → PortsDone old rows b i p j → j < p → 10 + j * 2 < length (items_in rows b)
+ports_there old rows b i p j d low = let e = d.1 in next_there old rows b (head_ports i j) (replicate d.0 blank) (10 + j * 2) d.2 (sym (count_head i j)) (blanks_some d.0 (omega (arith, e, low)))
 
 -- the same after one of the two
 abbrev pub OneDone : List Row → List Row → ℕ → ℕ → ℕ → ℕ → Type 0
 OneDone old rows b i p j = (left : ℕ) × (left + j * 2 + 1 ≡ p * 2) × Filled old rows b (port_one i j) (replicate left blank)
 
-one_more : (old rows rows' : List Row) (b i p j left : ℕ) → left + j * 2 ≡ p * 2 → Filled old rows b (head_ports i j) (replicate left blank) → j < p → rows' ≡ with_items b (set (items_in rows b) (11 + j * 2) (link_to None)) rows → OneDone old rows' b i p j
+one_more : (old rows rows' : List Row) (b i p j left : ℕ) → left + j * 2 ≡ p * 2 → Filled old rows b (head_ports i j) (replicate left blank) → j < p → rows' ≡ with_items b (set (items_in rows b) (10 + j * 2) (link_to None)) rows → OneDone old rows' b i p j
 one_more old rows rows' b i p j zero e f low r = absurd (omega (arith, e, low))
 one_more old rows rows' b i p j (suc left) e f low r = (left, omega (arith, e), ports_one old rows rows' b i j left f r)
 
 -- the first word of a port is written
-pub first_word : (old rows rows' : List Row) (b i p j : ℕ) → PortsDone old rows b i p j → j < p → rows' ≡ with_items b (set (items_in rows b) (11 + j * 2) (link_to None)) rows → OneDone old rows' b i p j
+pub first_word : (old rows rows' : List Row) (b i p j : ℕ) → PortsDone old rows b i p j → j < p → rows' ≡ with_items b (set (items_in rows b) (10 + j * 2) (link_to None)) rows → OneDone old rows' b i p j
 first_word old rows rows' b i p j d low r = one_more old rows rows' b i p j d.0 d.1 d.2 low r
 
 -- its second word is one of the row
-pub second_there : (old rows : List Row) (b i p j : ℕ) → OneDone old rows b i p j → j < p → 11 + j * 2 + 1 < length (items_in rows b)
-second_there old rows b i p j d low = let e = d.1 in next_there old rows b (port_one i j) (replicate d.0 blank) (11 + j * 2 + 1) d.2 (sym (count_one i j)) (blanks_some d.0 (omega (arith, e, low)))
+pub second_there : (old rows : List Row) (b i p j : ℕ) → OneDone old rows b i p j → j < p → 10 + j * 2 + 1 < length (items_in rows b)
+second_there old rows b i p j d low = let e = d.1 in next_there old rows b (port_one i j) (replicate d.0 blank) (10 + j * 2 + 1) d.2 (sym (count_one i j)) (blanks_some d.0 (omega (arith, e, low)))
 
-two_more : (old rows rows' : List Row) (b i p j left : ℕ) → left + j * 2 + 1 ≡ p * 2 → Filled old rows b (port_one i j) (replicate left blank) → j < p → rows' ≡ with_items b (set (items_in rows b) (11 + j * 2 + 1) (number 0)) rows → PortsDone old rows' b i p (j + 1)
+two_more : (old rows rows' : List Row) (b i p j left : ℕ) → left + j * 2 + 1 ≡ p * 2 → Filled old rows b (port_one i j) (replicate left blank) → j < p → rows' ≡ with_items b (set (items_in rows b) (10 + j * 2 + 1) (number 0)) rows → PortsDone old rows' b i p (j + 1)
 two_more old rows rows' b i p j zero e f low r = absurd (omega (arith, e, low))
 two_more old rows rows' b i p j (suc left) e f low r = (left, omega (arith, e), subst (λ n. Filled old rows' b (head_ports i n) (replicate left blank)) (plus_one j) (ports_two old rows rows' b i j left f r))
 
 -- its second word is written: one more port
-pub second_word : (old rows rows' : List Row) (b i p j : ℕ) → OneDone old rows b i p j → j < p → rows' ≡ with_items b (set (items_in rows b) (11 + j * 2 + 1) (number 0)) rows → PortsDone old rows' b i p (j + 1)
+pub second_word : (old rows rows' : List Row) (b i p j : ℕ) → OneDone old rows b i p j → j < p → rows' ≡ with_items b (set (items_in rows b) (10 + j * 2 + 1) (number 0)) rows → PortsDone old rows' b i p (j + 1)
 second_word old rows rows' b i p j d low r = two_more old rows rows' b i p j d.0 d.1 d.2 low r
 
 -- what is written then
@@ -215,16 +215,16 @@ abbrev pub end_none : ℕ → List Item
 end_none i = blank_links 7 ++ (blank_numbers i ++ replicate 5 blank)
 
 abbrev pub end_one : ℕ → List Item
-end_one i = set (end_none i) 11 (link_to None)
+end_one i = set (end_none i) 10 (link_to None)
 
 abbrev pub end_two : ℕ → List Item
-end_two i = set (end_one i) 12 (number 0)
+end_two i = set (end_one i) 11 (number 0)
 
 abbrev pub end_three : ℕ → List Item
-end_three i = set (end_two i) 13 (number 0)
+end_three i = set (end_two i) 12 (number 0)
 
 abbrev pub end_four : ℕ → List Item
-end_four i = set (end_three i) 14 (number 0)
+end_four i = set (end_three i) 13 (number 0)
 
 -- at first none is
 pub end_begun : (old : List Row) (b i : ℕ) → items_in old b ≡ end_none i → old ≡ with_items b (end_none i) old
@@ -241,7 +241,7 @@ end_there old rows b k is there e low = subst (λ js. k < length js) (sym (writt
 -- The words of a cell before its first numbers are written, and after each is
 
 abbrev pub head_none : ℕ → Option ℕ → ℕ → List Item
-head_none i x left = blank_links 7 ++ (numbered i x ∷ (replicate 3 blank ++ replicate left blank))
+head_none i x left = blank_links 7 ++ (numbered i x ∷ (replicate 2 blank ++ replicate left blank))
 
 abbrev pub head_one : ℕ → Option ℕ → ℕ → List Item
 head_one i x left = with_half_at 15 0 (head_none i x left)
@@ -249,20 +249,17 @@ head_one i x left = with_half_at 15 0 (head_none i x left)
 abbrev pub head_two : ℕ → Option ℕ → ℕ → List Item
 head_two i x left = set (head_one i x left) 8 (number 0)
 
-abbrev pub head_three : ℕ → Option ℕ → ℕ → List Item
-head_three i x left = set (head_two i x left) 9 (number 0)
-
 -- none of the other words is written
-pub three_blank : (i : ℕ) (x : Option ℕ) (left : ℕ) → blank_links 7 ++ (numbered i x ∷ replicate (3 + left) blank) ≡ head_none i x left
-three_blank i x left = ap (λ (n : ℕ). blank_links 7 ++ (numbered i x ∷ replicate n blank)) (three_more left) where
-  three_more : (k : ℕ) → 3 + k ≡ suc (suc (suc k))
-  three_more k = omega arith
+pub two_blank : (i : ℕ) (x : Option ℕ) (left : ℕ) → blank_links 7 ++ (numbered i x ∷ replicate (2 + left) blank) ≡ head_none i x left
+two_blank i x left = ap (λ (n : ℕ). blank_links 7 ++ (numbered i x ∷ replicate n blank)) (more left) where
+  more : (k : ℕ) → 2 + k ≡ suc (suc k)
+  more k = omega arith
 
 -- the words of a new row, behind its first seven
-pub behind_seven : (i : ℕ) (x : Option ℕ) (left : ℕ) → drop 7 (unwritten (11 + left) i x) ≡ numbered i x ∷ replicate (3 + left) blank
-behind_seven i x left = ap (λ (n : ℕ). drop 7 (unwritten n i x)) (eleven left) where
-  eleven : (k : ℕ) → 11 + k ≡ suc (suc (suc (suc (suc (suc (suc (suc (3 + k))))))))
-  eleven k = omega arith
+pub behind_seven : (i : ℕ) (x : Option ℕ) (left : ℕ) → drop 7 (unwritten (10 + left) i x) ≡ numbered i x ∷ replicate (2 + left) blank
+behind_seven i x left = ap (λ (n : ℕ). drop 7 (unwritten n i x)) (ten left) where
+  ten : (k : ℕ) → 10 + k ≡ suc (suc (suc (suc (suc (suc (suc (suc (2 + k))))))))
+  ten k = omega arith
 
 -- how many words it has
 pub unwritten_length : (words i : ℕ) (x : Option ℕ) → length (unwritten words i x) ≡ words

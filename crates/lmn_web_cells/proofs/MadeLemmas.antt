@@ -5,7 +5,7 @@ use lib.ListN.{length-replicate}
 use Rattle.lmn_web_cells.specs.Rows.{Item, Row, halves, items_in, with_items}
 use Rattle.lmn_web_cells.specs.Fillings.{unwritten}
 use Rattle.lmn_web_rows.specs.Seen.{HaveSameWords, IsMade, IsGone}
-use Rattle.lmn_web_cells.specs.Cells.{HeldCell, cell_items, cell_by, cells_by, both, index_alone, blank_cell, blank_membrane, IsNewIndex, no_port, IsShaped, IsLaid, AreLaid, IsLinkWord, link_of, link_to, numbers_of, ports_of, with_link}
+use Rattle.lmn_web_cells.specs.Cells.{HeldCell, cell_items, cell_by, cells_by, in_half, index_alone, blank_cell, blank_membrane, IsNewIndex, no_port, IsShaped, IsLaid, AreLaid, IsLinkWord, link_of, link_to, numbers_of, ports_of, with_link}
 use Rattle.lmn_store_heap.specs.Heap.{alter}
 use Rattle.lmn_web_cells.proofs.CellWords.{cell_back, word_count, atom_count, membrane_count}
 use Rattle.lmn_web_cells.proofs.FillLemmas.{unwritten_length}
@@ -25,10 +25,10 @@ narrow_none (suc n) zero = omega arith
 narrow_none (suc n) (suc k) = narrow_none n k
 
 blank_shaped : (i p : ℕ) → p < 256 → IsShaped (blank_cell i p)
-blank_shaped i p few = record { links = refl; numbers = inl (refl, refl); small = λ k low. small_none i k [] low; few = subst (λ n. n < 256) (sym (length-replicate p no_port)) few; narrow = narrow_none p }
+blank_shaped i p few = record { links = refl; numbers = inl (refl, refl); small = λ k low. small_none i k [] low; class = omega arith; few = subst (λ n. n < 256) (sym (length-replicate p no_port)) few; narrow = narrow_none p }
 
 membrane_shaped : (i : ℕ) → IsShaped (blank_membrane i)
-membrane_shaped i = record { links = refl; numbers = inr (refl, refl); small = λ k low. small_none i k (0 ∷ 0 ∷ []) low; few = omega arith; narrow = narrow_none 1 }
+membrane_shaped i = record { links = refl; numbers = inr (refl, refl); small = λ k low. small_none i k (0 ∷ 0 ∷ []) low; class = omega arith; few = omega arith; narrow = narrow_none 1 }
 
 -- the rows after a call, as cells
 pub record Cells (old new : List Row) (b : ℕ) (c : Option HeldCell) : Type 0 where
@@ -55,18 +55,18 @@ made_cell old mid new b words c laid shaped some m e =
     (λ j d. ap (λ (z : List Row). items_in z j) e ∙ items_away mid b is j d ∙ m.others j d)
 
 -- that of an atom
-pub made : (old mid new : List Row) (b p : ℕ) → AreLaid old → p < 256 → (m : IsMade old mid b (11 + p * 2)) → ((i : ℕ) (x : Option ℕ) → items_in mid b ≡ unwritten (11 + p * 2) i x → new ≡ with_items b (cell_items (blank_cell i p)) mid)
+pub made : (old mid new : List Row) (b p : ℕ) → AreLaid old → p < 256 → (m : IsMade old mid b (10 + p * 2)) → ((i : ℕ) (x : Option ℕ) → items_in mid b ≡ unwritten (10 + p * 2) i x → new ≡ with_items b (cell_items (blank_cell i p)) mid)
     → Cells old new b (Some (blank_cell m.number p))
-made old mid new b p laid few m e = made_cell old mid new b (11 + p * 2) (blank_cell m.number p) laid (blank_shaped m.number p few) (omega arith) m (e m.number m.beside m.made)
+made old mid new b p laid few m e = made_cell old mid new b (10 + p * 2) (blank_cell m.number p) laid (blank_shaped m.number p few) (omega arith) m (e m.number m.beside m.made)
 
 -- and of a membrane
-pub made_membrane : (old mid new : List Row) (b : ℕ) → AreLaid old → (m : IsMade old mid b 16) → ((i : ℕ) (x : Option ℕ) → items_in mid b ≡ unwritten 16 i x → new ≡ with_items b (cell_items (blank_membrane i)) mid)
+pub made_membrane : (old mid new : List Row) (b : ℕ) → AreLaid old → (m : IsMade old mid b 15) → ((i : ℕ) (x : Option ℕ) → items_in mid b ≡ unwritten 15 i x → new ≡ with_items b (cell_items (blank_membrane i)) mid)
     → Cells old new b (Some (blank_membrane m.number))
-made_membrane old mid new b laid m e = made_cell old mid new b 16 (blank_membrane m.number) laid (membrane_shaped m.number) (omega arith) m (e m.number m.beside m.made)
+made_membrane old mid new b laid m e = made_cell old mid new b 15 (blank_membrane m.number) laid (membrane_shaped m.number) (omega arith) m (e m.number m.beside m.made)
 
 -- its index is new
 pub new_index : (old mid : List Row) (b words : ℕ) → AreLaid old → (m : IsMade old mid b words) → IsNewIndex (cells_by old) m.number
-new_index old mid b words laid m = λ a there e. m.fresh a (_, number_word_is old a laid there ∙ ap (λ (i : ℕ). halves i (both (get_or (numbers_of (cells_by old a)) 0 0) (get_or (numbers_of (cells_by old a)) 1 0))) e)
+new_index old mid b words laid m = λ a there e. m.fresh a (_, number_word_is old a laid there ∙ ap (λ (i : ℕ). halves i (in_half (get_or (numbers_of (cells_by old a)) 0 0) (get_or (numbers_of (cells_by old a)) 1 0) (get_or (numbers_of (cells_by old a)) 3 0))) e)
 
 -- the cells after one was freed
 pub freed : (old new : List Row) (b : ℕ) → AreLaid old → IsGone old new b → Cells old new b None
@@ -85,17 +85,17 @@ few_ports rows b p laid there e =
     let f = found rows b laid there in let few = f.shaped.few in let same : length f.cell.ports ≡ p = sym (ap (λ (o : Option HeldCell). length (ports_of o)) f.is) ∙ e in omega (arith, few, same)
 
 -- how many words the row of a cell has
-pub count_words : (rows : List Row) (b p : ℕ) → AreLaid rows → IsSome (cells_by rows b) → length (numbers_of (cells_by rows b)) ≡ 6 → length (ports_of (cells_by rows b)) ≡ p → length (items_in rows b) ≡ 11 + p * 2
+pub count_words : (rows : List Row) (b p : ℕ) → AreLaid rows → IsSome (cells_by rows b) → length (numbers_of (cells_by rows b)) ≡ 6 → length (ports_of (cells_by rows b)) ≡ p → length (items_in rows b) ≡ 10 + p * 2
 count_words rows b p laid there six e =
     let f = found rows b laid there in let same : length f.cell.ports ≡ p = sym (ap (λ (o : Option HeldCell). length (ports_of o)) f.is) ∙ e in
-    let n : length f.cell.numbers ≡ 6 = sym (ap (λ (o : Option HeldCell). length (numbers_of o)) f.is) ∙ six in let w = word_count f.cell f.shaped in let z = atom_count f.cell n in let e : length (cell_items f.cell) ≡ 11 + p * 2 = omega (arith, w, z, same) in
+    let n : length f.cell.numbers ≡ 6 = sym (ap (λ (o : Option HeldCell). length (numbers_of o)) f.is) ∙ six in let w = word_count f.cell f.shaped in let z = atom_count f.cell n in let e : length (cell_items f.cell) ≡ 10 + p * 2 = omega (arith, w, z, same) in
     ap (λ (is : List Item). length is) f.words ∙ e
 
 -- and that of a membrane
-pub count_membrane : (rows : List Row) (b : ℕ) → AreLaid rows → IsSome (cells_by rows b) → length (numbers_of (cells_by rows b)) ≡ 8 → length (items_in rows b) ≡ 16
+pub count_membrane : (rows : List Row) (b : ℕ) → AreLaid rows → IsSome (cells_by rows b) → length (numbers_of (cells_by rows b)) ≡ 8 → length (items_in rows b) ≡ 15
 count_membrane rows b laid there eight =
     let f = found rows b laid there in let n : length f.cell.numbers ≡ 8 = sym (ap (λ (o : Option HeldCell). length (numbers_of o)) f.is) ∙ eight in let w = word_count f.cell f.shaped in
-    let e : length (cell_items f.cell) ≡ 16 = elim f.shaped.numbers [
+    let e : length (cell_items f.cell) ≡ 15 = elim f.shaped.numbers [
       | inl six ↦ (let e = six.0 in absurd (omega (arith, e, n)))
       | inr e ↦ (let one = e.1 in let z = membrane_count f.cell n in omega (arith, w, z, one))
     ] in
@@ -105,7 +105,7 @@ count_membrane rows b laid there eight =
 
 -- one of the first seven is its own number
 pub link_itself : (word : ℕ) → word < 7 → link_of word ≡ word
-link_itself word low = if_no (word == 15) 7 word (not_equal word 15 (λ (e : word ≡ 15). absurd (omega (arith, e, low))))
+link_itself word low = if_no (word == 14) 7 word (not_equal word 14 (λ (e : word ≡ 14). absurd (omega (arith, e, low))))
 
 -- a word of a link is one of the first
 pub word_small : (c : Option HeldCell) (word : ℕ) → IsLinkWord c word → word < 2 ^ 32

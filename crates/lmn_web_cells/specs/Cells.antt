@@ -1,7 +1,7 @@
 -- Cells: what the words of a row stand for.
-use Rattle.std.specs.Prelude.{◌≡◌, ◌≢◌, ◌⊎◌, Bool, true, false, ℕ, zero, suc, ◌+◌, ◌*◌, ◌/◌, ◌%◌, ◌==◌, ◌<◌, List, [], ◌∷◌, ◌++◌, length, take, drop, Option, Some, None, IsSome, if◌then◌else◌, slice_index_or, slice_set, replicate}
+use Rattle.std.specs.Prelude.{◌≡◌, ◌^◌, ◌≢◌, ◌⊎◌, Bool, true, false, ℕ, zero, suc, ◌+◌, ◌*◌, ◌/◌, ◌%◌, ◌==◌, ◌<◌, List, [], ◌∷◌, ◌++◌, length, take, drop, Option, Some, None, IsSome, if◌then◌else◌, slice_index_or, slice_set, replicate}
 use denote.RawPtr.{Ptr, block_ptr, null_ptr}
-use Rattle.lmn_web_cells.specs.Numbers.{INDEX}
+use Rattle.lmn_web_cells.specs.Numbers.{HIGH, INDEX}
 use Rattle.lmn_web_cells.specs.Rows.{Item, blank, link, number, halves, halves_in, Row, items_in, place_of, place_ptr}
 
 -- a port: the cell to which it leads, the port there, and a mark
@@ -48,13 +48,13 @@ abbrev pub port_items : List HeldPort → List Item
 port_items [] = []
 port_items (p ∷ ps) = link_to p.to ∷ number (port_and_mark p) ∷ port_items ps
 
--- two small numbers as one: the second is below 256
-abbrev pub both : ℕ → ℕ → ℕ
-both a b = a * 256 + b
+-- three small numbers as one: the first two are below 256
+abbrev pub in_half : ℕ → ℕ → ℕ → ℕ
+in_half a b h = h * 65536 + (a * 256 + b)
 
--- the first six numbers: the index and two small ones in the halves of a word, and three in words of their own
+-- the first six numbers: the index and three small ones in the halves of a word, and two in words of their own
 abbrev pub first_items : List ℕ → List Item
-first_items (a ∷ b ∷ i ∷ ns) = halves i (both a b) ∷ number_items ns
+first_items (a ∷ b ∷ i ∷ h ∷ ns) = halves i (in_half a b h) ∷ number_items ns
 first_items _ = []
 
 -- the words at the end of a membrane's row: its last two numbers and its last link
@@ -99,7 +99,7 @@ half_by i h = written_or_none (slice_index_or (halves_in i) h None)
 
 -- the first six numbers
 abbrev pub numbers_by : List Item → List ℕ
-numbers_by (i ∷ j ∷ k ∷ l ∷ is) = half_by i 1 / 256 ∷ half_by i 1 % 256 ∷ half_by i 0 ∷ number_by j ∷ number_by k ∷ number_by l ∷ []
+numbers_by (i ∷ j ∷ k ∷ is) = half_by i 1 / 256 % 256 ∷ half_by i 1 % 256 ∷ half_by i 0 ∷ half_by i 1 / 65536 ∷ number_by j ∷ number_by k ∷ []
 numbers_by _ = []
 
 -- a word that was written, and not as a pointer
@@ -116,28 +116,29 @@ ports_by (i ∷ j ∷ is) = if is_number i then [] else record { to = led_to i; 
 
 -- a membrane has a number behind its first port, and no atom has
 abbrev pub is_membrane : List Item → Bool
-is_membrane is = is_number (slice_index_or is 13 blank)
+is_membrane is = is_number (slice_index_or is 12 blank)
 
 -- the two numbers and the link at the end of a membrane's row
 abbrev pub last_numbers : List Item → List ℕ
-last_numbers is = if is_membrane is then first_numbers 2 (drop 13 is) else []
+last_numbers is = if is_membrane is then first_numbers 2 (drop 12 is) else []
 
 abbrev pub last_link : List Item → Option ℕ
-last_link is = if is_membrane is then led_to (slice_index_or is 15 blank) else None
+last_link is = if is_membrane is then led_to (slice_index_or is 14 blank) else None
 
 abbrev pub cell_by : List Item → Option HeldCell
 cell_by [] = None
-cell_by (i ∷ is) = Some record { links = first_links 7 (i ∷ is) ++ last_link (i ∷ is) ∷ []; numbers = numbers_by (drop 7 (i ∷ is)) ++ last_numbers (i ∷ is); ports = ports_by (drop 11 (i ∷ is)) }
+cell_by (i ∷ is) = Some record { links = first_links 7 (i ∷ is) ++ last_link (i ∷ is) ∷ []; numbers = numbers_by (drop 7 (i ∷ is)) ++ last_numbers (i ∷ is); ports = ports_by (drop 10 (i ∷ is)) }
 
 -- the cell of each number
 abbrev pub cells_by : List Row → ℕ → Option HeldCell
 cells_by rows b = cell_by (items_in rows b)
 
--- A cell has eight links. An atom has six numbers, and its last link leads nowhere; a membrane has eight and one port. The first two numbers are below 256, and there are fewer than 256 ports, which lead to ports with numbers below 256.
+-- A cell has eight links. An atom has six numbers, and its last link leads nowhere; a membrane has eight and one port. The first two numbers are below 256, the upper half of the label is below 2 ^ 16, and there are fewer than 256 ports, which lead to ports with numbers below 256.
 pub record IsShaped (c : HeldCell) : Type 0 where
   pub links : length c.links ≡ 8
   pub numbers : ((length c.numbers ≡ 6) × (slice_index_or c.links 7 None ≡ None)) ⊎ ((length c.numbers ≡ 8) × (length c.ports ≡ 1))
   pub small : (k : ℕ) → k < 2 → slice_index_or c.numbers k 0 < 256
+  pub class : slice_index_or c.numbers HIGH 0 < 2 ^ 16
   pub few : length c.ports < 256
   pub narrow : (j : ℕ) → (slice_index_or c.ports j no_port).port < 256
 
@@ -167,11 +168,11 @@ port_of c j = slice_index_or (ports_of c) j no_port
 
 -- a word of a cell is a link: one of the first seven, or the last one of a membrane
 abbrev pub IsLinkWord : Option HeldCell → ℕ → Type 0
-IsLinkWord c word = (word < 7) ⊎ ((word ≡ 15) × (length (numbers_of c) ≡ 8))
+IsLinkWord c word = (word < 7) ⊎ ((word ≡ 14) × (length (numbers_of c) ≡ 8))
 
 -- the link in a word
 abbrev pub link_of : ℕ → ℕ
-link_of word = if word == 15 then 7 else word
+link_of word = if word == 14 then 7 else word
 
 -- Changes of a cell
 

@@ -12,7 +12,7 @@ KIND = 1
 abbrev pub INDEX : ℕ
 INDEX = 2
 
--- the upper and the lower half of its label
+-- the upper half of its label, below 2 ^ 16, and the lower one
 abbrev pub HIGH : ℕ
 HIGH = 3
 

@@ -1,4 +1,4 @@
-//! Cells: rows with seven links, six numbers, of which three stand in one word, and two words for each port, of which a membrane has one, and behind it two
+//! Cells: rows with seven links, six numbers, of which four stand in one word, and two words for each port, of which a membrane has one, and behind it two
 //! numbers and a link more.
 ghost use Rattle.std.specs.Prelude.{◌≡◌, ◌≢◌, ◌==◌, if◌then◌else◌, ℕ, ◌+◌, ◌*◌, ◌/◌, ◌%◌, ◌^◌, ◌<◌, ◌≤◌, ◌∷◌, length, IsSome, None, Some, MatchResult, slice_index_or};
 ghost use Rattle.std.specs.Option.{option_map};
@@ -11,7 +11,7 @@ use crate::filling::{
     atom_words, fill, fill_membrane,
 };
 use crate::handle::Cell;
-use crate::numbers::{ARITY, INDEX};
+use crate::numbers::{ARITY, HIGH, INDEX};
 use lmn_web_rows::pointers::{is_nowhere, nowhere};
 use lmn_web_rows::store::{NUMBER as INDEX_HALF, Store};
 use std::alloc::{AllocError, Global};
@@ -21,6 +21,9 @@ use std::marker::Model;
 const TO: usize = 0;
 
 const NUMBER: usize = 1;
+
+// Below this are the two small numbers as one, which stand below the class of a label.
+const CLASSES: u32 = 65_536;
 
 // Below this are the numbers of ports.
 const PORTS: u64 = 256;
@@ -186,16 +189,20 @@ impl Cells {
         if k == INDEX {
             return self.rows.half(c.at, INDEX_HALF) as u64;
         }
-        self.rows.number(c.at, LINKS + k - 2)
+        if k == HIGH {
+            return (self.rows.half(c.at, SMALL) / CLASSES) as u64;
+        }
+        self.rows.number(c.at, LINKS + k - 3)
     }
 
-    /// A number that each cell has is another, but not the index. The first two are below 256.
+    /// A number that each cell has is another, but not the index. The first two are below 256, the upper half of a label below 2^16.
     #[inline(always)]
     pub fn set_number(&mut self, c: Cell, k: usize, n: u64)
         requires there { IsSome (cells_by self.old (cell_id c)) }
         requires below { k < 6 }
         requires index { k ≢ INDEX }
         requires small { k < 2 → n < 256 }
+        requires class { k ≡ HIGH → n < 2 ^ 16 }
         ensures { cells_by self.new ≡ alter (cells_by self.old) (cell_id c) (option_map (with_number k n)) }
     {
         if k < SMALL_NUMBERS {
@@ -203,7 +210,13 @@ impl Cells {
             self.rows.set_half(c.at, SMALL, with_part(k, n as u8, all));
             return;
         }
-        self.rows.set_number(c.at, LINKS + k - 2, n);
+        if k == HIGH {
+            let all = self.rows.half(c.at, SMALL);
+            self.rows
+                .set_half(c.at, SMALL, n as u32 * CLASSES + all % CLASSES);
+            return;
+        }
+        self.rows.set_number(c.at, LINKS + k - 3, n);
     }
 
     /// A number that only membranes have.
@@ -291,12 +304,10 @@ impl Cells {
     }
 }
 
-// One of the two small numbers, of both as one number. The second remainder changes nothing, but lets each of the two be one byte
-// that is read.
+// One of the two small numbers, of all as one number.
 #[inline(always)]
 fn part(k: usize, all: u32) -> u32
-    requires small { all < 2 ^ 16 }
-    ensures { result ≡ (if k == ARITY then all / 256 else all % 256) }
+    ensures { result ≡ (if k == ARITY then all / 256 % 256 else all % 256) }
 {
     if k == ARITY {
         all / 256 % 256
@@ -305,14 +316,13 @@ fn part(k: usize, all: u32) -> u32
     }
 }
 
-// Both of them as one number, of which one is another.
+// All of them as one number, of which one of the two is another.
 #[inline(always)]
 fn with_part(k: usize, n: u8, all: u32) -> u32
-    requires small { all < 2 ^ 16 }
-    ensures { result ≡ (if k == ARITY then n * 256 + all % 256 else all / 256 * 256 + n) }
+    ensures { result ≡ (if k == ARITY then all / 65536 * 65536 + (n * 256 + all % 256) else all / 256 * 256 + n) }
 {
     if k == ARITY {
-        n as u32 * 256 + all % 256
+        all / CLASSES * CLASSES + (n as u32 * 256 + all % 256)
     } else {
         all / 256 * 256 + n as u32
     }
@@ -322,7 +332,7 @@ fn with_part(k: usize, n: u8, all: u32) -> u32
 #[inline(always)]
 fn number_word(j: usize) -> usize
     requires { j < 256 }
-    ensures { result ≡ 11 + (j * 2 + 1) }
+    ensures { result ≡ 10 + (j * 2 + 1) }
 {
     FIRST_PORT + (j * PORT_WORDS + NUMBER)
 }

@@ -10,14 +10,15 @@ use lmn_web_rows::store::{NUMBER, Store};
 /// How many links each cell has.
 pub const LINKS: usize = 7;
 
-/// How many numbers, the first ones, are below 256. They stand together in half a word, beside the index.
+/// How many numbers, the first ones, are below 256. They stand together in half a word, beside the index, with the class of the
+/// label, which is below 2^16.
 pub const SMALL_NUMBERS: usize = 2;
 
 /// The half of a word in which they stand.
 pub const SMALL: usize = NUMBER + 1;
 
 /// How many words the numbers before the ports have.
-const NUMBER_WORDS: usize = 4;
+const NUMBER_WORDS: usize = 3;
 
 /// The word at which the ports of a cell begin.
 pub const FIRST_PORT: usize = LINKS + NUMBER_WORDS;
@@ -35,7 +36,7 @@ pub const MEMBRANE_WORDS: usize = LAST_LINK_WORD + 1;
 #[inline(always)]
 pub fn atom_words(ports: usize) -> usize
     requires { ports < 256 }
-    ensures { result ≡ 11 + ports * 2 }
+    ensures { result ≡ 10 + ports * 2 }
 {
     FIRST_PORT + ports * PORT_WORDS
 }
@@ -55,15 +56,14 @@ fn fill_links(rows: &mut Store, at: *mut u8)
 #[inline(always)]
 fn fill_numbers(rows: &mut Store, at: *mut u8, left: usize)
     requires start { IsStart at }
-    requires words { (index : ℕ) × (beside : Option ℕ) × (items_in rows.old.rows (place_of at) ≡ blank_links 7 ++ (numbered index beside ∷ replicate (3 + left) blank)) }
-    ensures { (index : ℕ) (beside : Option ℕ) → items_in rows.old.rows (place_of at) ≡ blank_links 7 ++ (numbered index beside ∷ replicate (3 + left) blank) →
+    requires words { (index : ℕ) × (beside : Option ℕ) × (items_in rows.old.rows (place_of at) ≡ blank_links 7 ++ (numbered index beside ∷ replicate (2 + left) blank)) }
+    ensures { (index : ℕ) (beside : Option ℕ) → items_in rows.old.rows (place_of at) ≡ blank_links 7 ++ (numbered index beside ∷ replicate (2 + left) blank) →
         rows.new.rows ≡ with_items (place_of at) (blank_links 7 ++ (blank_numbers index ++ replicate left blank)) rows.old.rows }
 {
     let _ = left;
     rows.set_half(at, SMALL, 0);
     rows.set_number(at, LINKS + 1, 0);
     rows.set_number(at, LINKS + 2, 0);
-    rows.set_number(at, LINKS + 3, 0);
 }
 
 // One more port leads nowhere.
@@ -118,8 +118,8 @@ fn fill_ports(rows: &mut Store, at: *mut u8, ports: usize)
 pub fn fill(rows: &mut Store, at: *mut u8, ports: usize)
     requires start { IsStart at }
     requires few { ports < 256 }
-    requires words { (index : ℕ) × (beside : Option ℕ) × (items_in rows.old.rows (place_of at) ≡ unwritten (11 + ports * 2) index beside) }
-    ensures { (index : ℕ) (beside : Option ℕ) → items_in rows.old.rows (place_of at) ≡ unwritten (11 + ports * 2) index beside →
+    requires words { (index : ℕ) × (beside : Option ℕ) × (items_in rows.old.rows (place_of at) ≡ unwritten (10 + ports * 2) index beside) }
+    ensures { (index : ℕ) (beside : Option ℕ) → items_in rows.old.rows (place_of at) ≡ unwritten (10 + ports * 2) index beside →
         rows.new.rows ≡ with_items (place_of at) (cell_items (blank_cell index ports)) rows.old.rows }
 {
     fill_links(rows, at);
@@ -144,8 +144,8 @@ fn fill_end(rows: &mut Store, at: *mut u8)
 /// A new row becomes the cell of a membrane in which nothing is set but the index, which is the row's number.
 pub fn fill_membrane(rows: &mut Store, at: *mut u8)
     requires start { IsStart at }
-    requires words { (index : ℕ) × (beside : Option ℕ) × (items_in rows.old.rows (place_of at) ≡ unwritten 16 index beside) }
-    ensures { (index : ℕ) (beside : Option ℕ) → items_in rows.old.rows (place_of at) ≡ unwritten 16 index beside → rows.new.rows ≡ with_items (place_of at) (cell_items (blank_membrane index)) rows.old.rows }
+    requires words { (index : ℕ) × (beside : Option ℕ) × (items_in rows.old.rows (place_of at) ≡ unwritten 15 index beside) }
+    ensures { (index : ℕ) (beside : Option ℕ) → items_in rows.old.rows (place_of at) ≡ unwritten 15 index beside → rows.new.rows ≡ with_items (place_of at) (cell_items (blank_membrane index)) rows.old.rows }
 {
     fill_links(rows, at);
     fill_numbers(rows, at, PORT_WORDS + 3);

@@ -16,7 +16,7 @@ pub const ATOMS: usize = 3;
 pub const MEMBRANES: usize = 5;
 
 /// The word of the last link of a membrane, to the last atom of a class.
-pub const LEADERS_WORD: usize = 15;
+pub const LEADERS_WORD: usize = 14;
 
 /// The link of an atom to the next one of its class, and of the last one of a class to the first one of it.
 pub const CLASS_NEXT: usize = 3;

@@ -10,7 +10,7 @@ pub const KIND: usize = 1;
 /// The index of the cell, which no other one has and which stays.
 pub const INDEX: usize = 2;
 
-/// The upper half of the cell's label.
+/// The upper half of the cell's label, below 2^16.
 pub const HIGH: usize = 3;
 
 /// The lower half of the cell's label.

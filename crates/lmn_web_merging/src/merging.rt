@@ -6,7 +6,7 @@ ghost use Rattle.lmn_store_heap.specs.Heap.{alter};
 ghost use Rattle.lmn_store_heap.specs.Lists.{after, from};
 ghost use Rattle.lmn_web_cells.specs.CellIds.{cell_id, port_id};
 ghost use Rattle.lmn_web_cells.specs.Ports.{IsSamePort};
-ghost use Rattle.lmn_web.specs.Webs.{web_by, partner_at, arity_at, kind_at, home_at, cells_in, marks_of, new_cell, with_mark, joined, added_last, unlinked, web_label, with_label, FilesNone, IsPaired, IsLoose, StandOnce, WithoutAtoms};
+ghost use Rattle.lmn_web.specs.Webs.{web_by, partner_at, arity_at, kind_at, home_at, cells_in, marks_of, new_cell, with_mark, joined, added_last, unlinked, web_label, label_class, with_label, FilesNone, IsPaired, IsLoose, StandOnce, WithoutAtoms};
 ghost use Rattle.lmn_web.specs.declared.kind.CellKind.TheVariants.{Atom, Membrane};
 ghost use Rattle.lmn_web_merging.specs.Keepers.{merged_by, port_mark, LENT, MovesAll};
 
@@ -53,7 +53,8 @@ impl MergingWeb {
     /// atoms by class where its label has the class 0.
     #[inline(always)]
     pub fn make(&mut self, label: u128, arity: u8, kind: CellKind) -> Result<Cell, AllocError>
-        requires { kind ≡ Membrane → arity ≡ 0 }
+        requires ports { kind ≡ Membrane → arity ≡ 0 }
+        requires class { label_class label < 2 ^ 16 }
         ensures { MatchResult result
             (λ c. (merged_by self.old (cell_id c) ≡ None) × (merged_by self.new ≡ alter (merged_by self.old) (cell_id c) (λ _. Some (new_cell label arity kind))))
             (λ _. merged_by self.new ≡ merged_by self.old) }

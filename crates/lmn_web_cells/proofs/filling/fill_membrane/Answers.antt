@@ -5,11 +5,11 @@ use Rattle.lmn_web_cells.specs.Fillings.{unwritten}
 use Rattle.lmn_web_cells.proofs.FillLemmas.{then, written, end_none}
 use Rattle.lmn_web_cells.proofs.filling.fill_membrane.Goals as goal
 
-long : (rows : List Row) (b i : ℕ) (x : Option ℕ) → items_in rows b ≡ unwritten 16 i x → 7 < length (items_in rows b)
+long : (rows : List Row) (b i : ℕ) (x : Option ℕ) → items_in rows b ≡ unwritten 15 i x → 7 < length (items_in rows b)
 long rows b i x e = subst (λ (is : List Item). 7 < length is) (sym e) (omega arith)
 
 -- the words behind the links
-links_filled : (old rows : List Row) (b i : ℕ) (x : Option ℕ) → items_in old b ≡ unwritten 16 i x → rows ≡ with_items b (blank_links 7 ++ drop 7 (items_in old b)) old → rows ≡ with_items b (blank_links 7 ++ (numbered i x ∷ replicate 8 blank)) old
+links_filled : (old rows : List Row) (b i : ℕ) (x : Option ℕ) → items_in old b ≡ unwritten 15 i x → rows ≡ with_items b (blank_links 7 ++ drop 7 (items_in old b)) old → rows ≡ with_items b (blank_links 7 ++ (numbered i x ∷ replicate 7 blank)) old
 links_filled old rows b i x e f = f ∙ ap (λ (is : List Item). with_items b (blank_links 7 ++ drop 7 is) old) e
 
 pub fill_links-requires-clause-words : goal.fill_links-requires-clause-words
@@ -18,13 +18,13 @@ fill_links-requires-clause-words c = long c.args.rows.now.rows (place_of c.args.
 pub fill_numbers-requires-clause-words : goal.fill_numbers-requires-clause-words
 fill_numbers-requires-clause-words c =
     let old = c.args.rows.now.rows in let b = place_of c.args.at in let i = c.requires.words.0 in let x = c.requires.words.1 in let words = c.requires.words.2 in let some = long old b i x words in
-    (i, x, written old c.fill_links.new.rows.rows b (blank_links 7 ++ (numbered i x ∷ replicate 8 blank)) (omega (arith, some)) (links_filled old c.fill_links.new.rows.rows b i x words c.fill_links.ensures))
+    (i, x, written old c.fill_links.new.rows.rows b (blank_links 7 ++ (numbered i x ∷ replicate 7 blank)) (omega (arith, some)) (links_filled old c.fill_links.new.rows.rows b i x words c.fill_links.ensures))
 
 -- the words behind the numbers
-numbers_filled : (old mid rows : List Row) (b i : ℕ) (x : Option ℕ) → items_in old b ≡ unwritten 16 i x → mid ≡ with_items b (blank_links 7 ++ drop 7 (items_in old b)) old
-    → (items_in mid b ≡ blank_links 7 ++ (numbered i x ∷ replicate 8 blank) → rows ≡ with_items b (end_none i) mid) → rows ≡ with_items b (end_none i) old
+numbers_filled : (old mid rows : List Row) (b i : ℕ) (x : Option ℕ) → items_in old b ≡ unwritten 15 i x → mid ≡ with_items b (blank_links 7 ++ drop 7 (items_in old b)) old
+    → (items_in mid b ≡ blank_links 7 ++ (numbered i x ∷ replicate 7 blank) → rows ≡ with_items b (end_none i) mid) → rows ≡ with_items b (end_none i) old
 numbers_filled old mid rows b i x e f g =
-    let some = long old b i x e in let first = links_filled old mid b i x e f in let is = blank_links 7 ++ (numbered i x ∷ replicate 8 blank) in
+    let some = long old b i x e in let first = links_filled old mid b i x e f in let is = blank_links 7 ++ (numbered i x ∷ replicate 7 blank) in
     then old mid rows b is (end_none i) first (g (written old mid b is (omega (arith, some)) first))
 
 pub fill_end-requires-clause-words : goal.fill_end-requires-clause-words

@@ -11,10 +11,10 @@ set_link-requires c =
 pub set_number-requires : goal.set_number-requires
 set_number-requires c =
     let old = c.args.rows.now.rows in let b = place_of c.args.at in let p = c.args.ports in let j = c.args.j in let low = c.requires.below in let few = c.requires.few in let i = c.requires.words.0 in
-    (c.requires.start, omega (arith, low, few), (λ e. absurd (omega (arith, e))), second_there old c.set_link.new.self.rows b i p j (first_word old old c.set_link.new.self.rows b i p j (ports_begin old b i p j low c.requires.words.1) low (c.set_link.ensures ∙ ap (λ q. with_items b (set (items_in old b) (11 + j * 2) (link q)) old) c.nowhere.ensures)) low)
+    (c.requires.start, omega (arith, low, few), (λ e. absurd (omega (arith, e))), second_there old c.set_link.new.self.rows b i p j (first_word old old c.set_link.new.self.rows b i p j (ports_begin old b i p j low c.requires.words.1) low (c.set_link.ensures ∙ ap (λ q. with_items b (set (items_in old b) (10 + j * 2) (link q)) old) c.nowhere.ensures)) low)
 
 pub returns : goal.returns
 returns c = λ i words.
     let old = c.args.rows.now.rows in let b = place_of c.args.at in let p = c.args.ports in let j = c.args.j in let low = c.requires.below in
     ports_are old c.set_number.new.self.rows b i p (j + 1)
-    (second_word old c.set_link.new.self.rows c.set_number.new.self.rows b i p j (first_word old old c.set_link.new.self.rows b i p j (ports_begin old b i p j low words) low (c.set_link.ensures ∙ ap (λ q. with_items b (set (items_in old b) (11 + j * 2) (link q)) old) c.nowhere.ensures)) low c.set_number.ensures)
+    (second_word old c.set_link.new.self.rows c.set_number.new.self.rows b i p j (first_word old old c.set_link.new.self.rows b i p j (ports_begin old b i p j low words) low (c.set_link.ensures ∙ ap (λ q. with_items b (set (items_in old b) (10 + j * 2) (link q)) old) c.nowhere.ensures)) low c.set_number.ensures)

@@ -15,6 +15,6 @@ returns-in-Ok c =
       subst (λ (z : List Row). cells_by z n ≡ None) c.self.view_is (ap cell_by m.none),
       m.number,
       m.small,
-      subst (λ (z : List Row). IsNewIndex (cells_by z) m.number) c.self.view_is (new_index c.self.inside.rows.rows c.make.new.self.rows n (11 + c.args.ports * 2) c.self.invariant m),
+      subst (λ (z : List Row). IsNewIndex (cells_by z) m.number) c.self.view_is (new_index c.self.inside.rows.rows c.make.new.self.rows n (10 + c.args.ports * 2) c.self.invariant m),
       (made c.self.inside.rows.rows c.make.new.self.rows c.fill.new.rows.rows n c.args.ports c.self.invariant c.requires m c.fill.ensures).cells ∙ ap (λ (z : List Row). alter (cells_by z) n (λ _. Some (blank_cell m.number c.args.ports))) c.self.view_is,
     )

@@ -14,6 +14,6 @@ returns-in-Ok c =
       subst (λ (z : List Row). cells_by z n ≡ None) c.self.view_is (ap cell_by m.none),
       m.number,
       m.small,
-      subst (λ (z : List Row). IsNewIndex (cells_by z) m.number) c.self.view_is (new_index c.self.inside.rows.rows c.make.new.self.rows n 16 c.self.invariant m),
+      subst (λ (z : List Row). IsNewIndex (cells_by z) m.number) c.self.view_is (new_index c.self.inside.rows.rows c.make.new.self.rows n 15 c.self.invariant m),
       (made_membrane c.self.inside.rows.rows c.make.new.self.rows c.fill_membrane.new.rows.rows n c.self.invariant m c.fill_membrane.ensures).cells ∙ ap (λ (z : List Row). alter (cells_by z) n (λ _. Some (blank_membrane m.number))) c.self.view_is,
     )

@@ -18,11 +18,11 @@ pub invariant_of-self : goal.invariant_of-self
 invariant_of-self c =
     let there : IsSome (cells_by c.self.inside.rows.rows (cell_id c.args.c)) = subst (λ (z : List Row). IsSome (cells_by z (cell_id c.args.c))) (sym c.self.view_is) c.requires.there in
     let eight : length (numbers_of (cells_by c.self.inside.rows.rows (cell_id c.args.c))) ≡ 8 = subst (λ (z : List Row). length (numbers_of (cells_by z (cell_id c.args.c))) ≡ 8) (sym c.self.view_is) c.requires.numbers in
-    laid_after c.self.inside.rows.rows _ (cell_id c.args.c) (13 + c.args.k - 6) (number c.args.n) (number c.args.n) (with_number c.args.k c.args.n) (count_changes c.self.inside.rows.rows (cell_id c.args.c) c.args.k c.args.n c.self.invariant there eight c.requires.behind c.requires.below) refl c.set_number.ensures
+    laid_after c.self.inside.rows.rows _ (cell_id c.args.c) (12 + c.args.k - 6) (number c.args.n) (number c.args.n) (with_number c.args.k c.args.n) (count_changes c.self.inside.rows.rows (cell_id c.args.c) c.args.k c.args.n c.self.invariant there eight c.requires.behind c.requires.below) refl c.set_number.ensures
 
 pub returns : goal.returns
 returns c =
     let there : IsSome (cells_by c.self.inside.rows.rows (cell_id c.args.c)) = subst (λ (z : List Row). IsSome (cells_by z (cell_id c.args.c))) (sym c.self.view_is) c.requires.there in
     let eight : length (numbers_of (cells_by c.self.inside.rows.rows (cell_id c.args.c))) ≡ 8 = subst (λ (z : List Row). length (numbers_of (cells_by z (cell_id c.args.c))) ≡ 8) (sym c.self.view_is) c.requires.numbers in
-    cells_after c.self.inside.rows.rows _ (cell_id c.args.c) (13 + c.args.k - 6) (number c.args.n) (number c.args.n) (with_number c.args.k c.args.n) (count_changes c.self.inside.rows.rows (cell_id c.args.c) c.args.k c.args.n c.self.invariant there eight c.requires.behind c.requires.below) refl c.set_number.ensures
+    cells_after c.self.inside.rows.rows _ (cell_id c.args.c) (12 + c.args.k - 6) (number c.args.n) (number c.args.n) (with_number c.args.k c.args.n) (count_changes c.self.inside.rows.rows (cell_id c.args.c) c.args.k c.args.n c.self.invariant there eight c.requires.behind c.requires.below) refl c.set_number.ensures
     ∙ ap (λ (z : List Row). alter (cells_by z) (cell_id c.args.c) (option_map (with_number c.args.k c.args.n))) c.self.view_is

@@ -40,7 +40,7 @@ invariant_of-self c =
     let word = c.number_word-2.ensures in let first = c.number_word.ensures in let n = c.port_and_mark.result in
     let read = number_read _ _ _ (ap (λ (k : ℕ). get_or (items_in rows b) k blank) first ∙ port_and_mark_is rows b c.args.j c.self.invariant there low) c.number.ensures in
     let same : n ≡ c.args.n * 256 + (get_or (ports_of (cells_by rows b)) c.args.j no_port).port = c.port_and_mark.ensures ∙ ap (λ (m : ℕ). c.args.n * 256 + m) (port_read rows b c.args.j c.number.result c.self.invariant there read) in
-    laid_after rows _ b (11 + (c.args.j * 2 + 1)) (number (c.args.n * 256 + (get_or (ports_of (cells_by rows b)) c.args.j no_port).port)) (number n) (with_mark c.args.j c.args.n) (mark_changes rows b c.args.j c.args.n c.self.invariant there low) (ap number same)
+    laid_after rows _ b (10 + (c.args.j * 2 + 1)) (number (c.args.n * 256 + (get_or (ports_of (cells_by rows b)) c.args.j no_port).port)) (number n) (with_mark c.args.j c.args.n) (mark_changes rows b c.args.j c.args.n c.self.invariant there low) (ap number same)
     (c.set_number.ensures ∙ ap (λ (k : ℕ). with_items b (set (items_in rows b) k (number n)) rows) word)
 
 pub returns : goal.returns
@@ -50,6 +50,6 @@ returns c =
     let word = c.number_word-2.ensures in let first = c.number_word.ensures in let n = c.port_and_mark.result in
     let read = number_read _ _ _ (ap (λ (k : ℕ). get_or (items_in rows b) k blank) first ∙ port_and_mark_is rows b c.args.j c.self.invariant there low) c.number.ensures in
     let same : n ≡ c.args.n * 256 + (get_or (ports_of (cells_by rows b)) c.args.j no_port).port = c.port_and_mark.ensures ∙ ap (λ (m : ℕ). c.args.n * 256 + m) (port_read rows b c.args.j c.number.result c.self.invariant there read) in
-    cells_after rows _ b (11 + (c.args.j * 2 + 1)) (number (c.args.n * 256 + (get_or (ports_of (cells_by rows b)) c.args.j no_port).port)) (number n) (with_mark c.args.j c.args.n) (mark_changes rows b c.args.j c.args.n c.self.invariant there low) (ap number same)
+    cells_after rows _ b (10 + (c.args.j * 2 + 1)) (number (c.args.n * 256 + (get_or (ports_of (cells_by rows b)) c.args.j no_port).port)) (number n) (with_mark c.args.j c.args.n) (mark_changes rows b c.args.j c.args.n c.self.invariant there low) (ap number same)
     (c.set_number.ensures ∙ ap (λ (k : ℕ). with_items b (set (items_in rows b) k (number n)) rows) word)
     ∙ ap (λ (z : List Row). alter (cells_by z) b (option_map (with_mark c.args.j c.args.n))) c.self.view_is

@@ -40,7 +40,7 @@ invariant_of-self c =
     let word = c.number_word-2.ensures in let first = c.number_word.ensures in let n = c.port_and_mark.result in
     let read = number_read _ _ _ (ap (λ (k : ℕ). get_or (items_in rows b) k blank) first ∙ port_and_mark_is rows b c.args.j c.self.invariant there low) c.number-mark.ensures in
     let same : n ≡ (get_or (ports_of (cells_by rows b)) c.args.j no_port).mark * 256 + c.args.n = c.port_and_mark.ensures ∙ ap (λ (m : ℕ). m * 256 + c.args.n) (mark_read rows b c.args.j c.number-mark.result c.self.invariant there read) in
-    laid_after rows _ b (11 + (c.args.j * 2 + 1)) (number ((get_or (ports_of (cells_by rows b)) c.args.j no_port).mark * 256 + c.args.n)) (number n) (with_port c.args.j c.args.n) (port_changes rows b c.args.j c.args.n c.self.invariant there low c.requires.small) (ap number same)
+    laid_after rows _ b (10 + (c.args.j * 2 + 1)) (number ((get_or (ports_of (cells_by rows b)) c.args.j no_port).mark * 256 + c.args.n)) (number n) (with_port c.args.j c.args.n) (port_changes rows b c.args.j c.args.n c.self.invariant there low c.requires.small) (ap number same)
     (c.set_number.ensures ∙ ap (λ (k : ℕ). with_items b (set (items_in rows b) k (number n)) rows) word)
 
 pub returns : goal.returns
@@ -50,6 +50,6 @@ returns c =
     let word = c.number_word-2.ensures in let first = c.number_word.ensures in let n = c.port_and_mark.result in
     let read = number_read _ _ _ (ap (λ (k : ℕ). get_or (items_in rows b) k blank) first ∙ port_and_mark_is rows b c.args.j c.self.invariant there low) c.number-mark.ensures in
     let same : n ≡ (get_or (ports_of (cells_by rows b)) c.args.j no_port).mark * 256 + c.args.n = c.port_and_mark.ensures ∙ ap (λ (m : ℕ). m * 256 + c.args.n) (mark_read rows b c.args.j c.number-mark.result c.self.invariant there read) in
-    cells_after rows _ b (11 + (c.args.j * 2 + 1)) (number ((get_or (ports_of (cells_by rows b)) c.args.j no_port).mark * 256 + c.args.n)) (number n) (with_port c.args.j c.args.n) (port_changes rows b c.args.j c.args.n c.self.invariant there low c.requires.small) (ap number same)
+    cells_after rows _ b (10 + (c.args.j * 2 + 1)) (number ((get_or (ports_of (cells_by rows b)) c.args.j no_port).mark * 256 + c.args.n)) (number n) (with_port c.args.j c.args.n) (port_changes rows b c.args.j c.args.n c.self.invariant there low c.requires.small) (ap number same)
     (c.set_number.ensures ∙ ap (λ (k : ℕ). with_items b (set (items_in rows b) k (number n)) rows) word)
     ∙ ap (λ (z : List Row). alter (cells_by z) b (option_map (with_port c.args.j c.args.n))) c.self.view_is

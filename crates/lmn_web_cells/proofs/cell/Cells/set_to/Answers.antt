@@ -30,10 +30,10 @@ set_link-requires c =
 pub invariant_of-self : goal.invariant_of-self
 invariant_of-self c =
     let there : IsSome (cells_by c.self.inside.rows.rows (cell_id c.args.c)) = subst (λ (z : List Row). IsSome (cells_by z (cell_id c.args.c))) (sym c.self.view_is) c.requires.there in let low : c.args.j < length (ports_of (cells_by c.self.inside.rows.rows (cell_id c.args.c))) = subst (λ (z : List Row). c.args.j < length (ports_of (cells_by z (cell_id c.args.c)))) (sym c.self.view_is) c.requires.below in
-    laid_after c.self.inside.rows.rows _ (cell_id c.args.c) (11 + (c.args.j * 2 + 0)) (link_to (option_map cell_id c.args.to)) (link c.pointer_of.result) (with_to c.args.j (option_map cell_id c.args.to)) (to_changes c.self.inside.rows.rows (cell_id c.args.c) c.args.j (option_map cell_id c.args.to) c.self.invariant there low) (ap link c.pointer_of.ensures) c.set_link.ensures
+    laid_after c.self.inside.rows.rows _ (cell_id c.args.c) (10 + (c.args.j * 2 + 0)) (link_to (option_map cell_id c.args.to)) (link c.pointer_of.result) (with_to c.args.j (option_map cell_id c.args.to)) (to_changes c.self.inside.rows.rows (cell_id c.args.c) c.args.j (option_map cell_id c.args.to) c.self.invariant there low) (ap link c.pointer_of.ensures) c.set_link.ensures
 
 pub returns : goal.returns
 returns c =
     let there : IsSome (cells_by c.self.inside.rows.rows (cell_id c.args.c)) = subst (λ (z : List Row). IsSome (cells_by z (cell_id c.args.c))) (sym c.self.view_is) c.requires.there in let low : c.args.j < length (ports_of (cells_by c.self.inside.rows.rows (cell_id c.args.c))) = subst (λ (z : List Row). c.args.j < length (ports_of (cells_by z (cell_id c.args.c)))) (sym c.self.view_is) c.requires.below in
-    cells_after c.self.inside.rows.rows _ (cell_id c.args.c) (11 + (c.args.j * 2 + 0)) (link_to (option_map cell_id c.args.to)) (link c.pointer_of.result) (with_to c.args.j (option_map cell_id c.args.to)) (to_changes c.self.inside.rows.rows (cell_id c.args.c) c.args.j (option_map cell_id c.args.to) c.self.invariant there low) (ap link c.pointer_of.ensures) c.set_link.ensures
+    cells_after c.self.inside.rows.rows _ (cell_id c.args.c) (10 + (c.args.j * 2 + 0)) (link_to (option_map cell_id c.args.to)) (link c.pointer_of.result) (with_to c.args.j (option_map cell_id c.args.to)) (to_changes c.self.inside.rows.rows (cell_id c.args.c) c.args.j (option_map cell_id c.args.to) c.self.invariant there low) (ap link c.pointer_of.ensures) c.set_link.ensures
     ∙ ap (λ (z : List Row). alter (cells_by z) (cell_id c.args.c) (option_map (with_to c.args.j (option_map cell_id c.args.to)))) c.self.view_is
