@@ -21,7 +21,7 @@ use Rattle.lmn_store_web.proofs.web_store.WebStoreLinkStore.make_atom.Goals as g
 use Rattle.lmn_store_heap.proofs.Common.{listed_mem as members}
 
 pub make-requires : goal.make-requires
-make-requires c e = absurd (let z : Atom ≡ Membrane = e in cc)
+make-requires c = record { ports = λ e. absurd (let z : Atom ≡ Membrane = e in cc); class = c.number_of.ensures.class }
 
 pub add_last_plain-requires-clause-plain : goal.add_last_plain-requires-clause-plain
 add_last_plain-requires-clause-plain c =

@@ -12,6 +12,7 @@ use Rattle.lmn_web_merging.specs.Keepers.{merged_by}
 use Rattle.lmn_store_web.specs.WebHeaps.{KeptWeb, heap_of, heap_by, atom_by, if_atom, atoms_of, mems_of}
 use Rattle.lmn_store_web.specs.Labels.{label_by}
 use Rattle.lmn_store_web.specs.WebStores.{IsStored, kept_by}
+use Rattle.lmn_store_web.proofs.LabelLemmas.{number_class}
 use Rattle.lmn_store_web.proofs.ReadLemmas.{atom_there, functor_is}
 use Rattle.lmn_store_web.proofs.MakeLemmas.{new_there, new_kind, new_homeless, new_apart, old_kind, old_files, old_mark, made_line, atom_stored, made_atom_heap, made_atom_counts}
 use Rattle.lmn_store_heap.specs.Heap.{Heap}
@@ -25,7 +26,14 @@ use Rattle.lmn_store_web.proofs.web_store.WebStoreLinkStore.make_like.Goals as g
 use Rattle.lmn_store_heap.proofs.Common.{listed_mem as members}
 
 pub make-requires : goal.make-requires
-make-requires c e = absurd (let z : Atom ≡ Membrane = e in cc)
+make-requires c =
+    let k = kept_by c.self.inside in
+    let p = k.posts in
+    let v = merged_by k.web in
+    let inv = c.self.invariant.store.stored in
+    let old = cell_id c.args.a in
+    let there = atom_there p k.table v old (subst (λ (z : KeptWeb). IsAtom (heap_of z) old) (sym c.self.view_is) c.requires) in
+    record { ports = λ e. absurd (let z : Atom ≡ Membrane = e in cc); class = number_class _ _ (inv.labels old c.label-label.result there.1 c.label-label.ensures) }
 
 pub add_last_plain-requires-clause-plain : goal.add_last_plain-requires-clause-plain
 add_last_plain-requires-clause-plain c =

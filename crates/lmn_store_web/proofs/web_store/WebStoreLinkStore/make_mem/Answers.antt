@@ -88,7 +88,7 @@ returns-in_err-m-clause-err c =
     on_err _ _ (ap (λ (f : ℕ → Option WebCell). heap_by p c.reserve.new.self.slots f) c.in_err-m.ensures ∙ ap (λ (t : List (Option RuleList)). heap_by p t v) same ∙ ap (λ (z : KeptWeb). heap_of z) c.self.view_is)
 
 pub make-requires : goal.make-requires
-make-requires c _ = refl
+make-requires c = record { ports = λ _. refl; class = omega arith }
 
 pub add_last-requires-clause-own : goal.add_last-requires-clause-own
 add_last-requires-clause-own c _ =

@@ -22,7 +22,7 @@ returns-in-Atom c =
 
 pub returns-in-Membrane : goal.returns-in-Membrane
 returns-in-Membrane c =
-    let new : ◌≡◌ {A = WebCell} (new_cell c.args.label 0 Membrane) (new_cell c.args.label c.args.arity c.args.kind) = λ i. new_cell c.args.label (sym (c.requires c.in-Membrane.is) i) (sym c.in-Membrane.is i) in
+    let new : ◌≡◌ {A = WebCell} (new_cell c.args.label 0 Membrane) (new_cell c.args.label c.args.arity c.args.kind) = λ i. new_cell c.args.label (sym (c.requires.ports c.in-Membrane.is) i) (sym c.in-Membrane.is i) in
     subst (λ (q : WebCell). MatchResult c.make-in-Membrane.result (λ x. (merged_by c.args.self.now (cell_id x) ≡ None) × (merged_by c.make-in-Membrane.new.self ≡ alter (merged_by c.args.self.now) (cell_id x) (λ _. Some q))) (λ _. merged_by c.make-in-Membrane.new.self ≡ merged_by c.args.self.now)) new
     (subst (λ (z : List Row). MatchResult c.make-in-Membrane.result (λ x. (merged_by z (cell_id x) ≡ None) × (merged_by c.make-in-Membrane.new.self ≡ alter (merged_by z) (cell_id x) (λ _. Some (new_cell c.args.label 0 Membrane)))) (λ _. merged_by c.make-in-Membrane.new.self ≡ merged_by z)) c.self.view_is
     (made_membrane (web_by c.self.inside.web) c.paired.ensures c.self.invariant cell_id c.args.label c.make-in-Membrane.result (web_by c.make-in-Membrane.new.self) c.make-in-Membrane.ensures).1)
