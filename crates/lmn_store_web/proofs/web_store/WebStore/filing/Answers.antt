@@ -1,4 +1,4 @@
-use Rattle.std.proofs.Common.{◌∙◌, false, ap, subst, sym, List, Option, Some, None}
+use Rattle.std.proofs.Common.{◌∙◌, false, ap, subst, sym, List, Option, Some, None, arith}
 use Rattle.std.specs.Prelude.{slice_index_or}
 use Rattle.lmn_store_counts.specs.RuleLists.{RuleList}
 use Rattle.lmn_web_cells.specs.CellIds.{cell_id}
@@ -21,13 +21,13 @@ use Rattle.lmn_store_web.proofs.IndexLemmas.{index_alone, index_by, key_is}
 use Rattle.lmn_store_web.proofs.web_store.WebStore.filing.Goals as goal
 
 pub make-requires : goal.make-requires
-make-requires c _ = refl
+make-requires c = record { ports = λ _. refl; class = omega arith }
 
 pub make-requires-2 : goal.make-requires-2
-make-requires-2 c _ = refl
+make-requires-2 c = record { ports = λ _. refl; class = omega arith }
 
 pub make-requires-3 : goal.make-requires-3
-make-requires-3 c _ = refl
+make-requires-3 c = record { ports = λ _. refl; class = omega arith }
 
 pub invariant_of-result : goal.invariant_of-result
 invariant_of-result c =
