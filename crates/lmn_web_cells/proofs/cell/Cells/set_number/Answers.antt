@@ -1,4 +1,4 @@
-use Rattle.std.proofs.Common.{◌≡◌, ◌+◌, ◌-◌, ◌*◌, ◌%◌, ◌∙◌, List, IsSome, sym, subst, ap, arith, refl}
+use Rattle.std.proofs.Common.{◌+◌, ◌-◌, ◌*◌, ◌%◌, ◌∙◌, List, IsSome, sym, subst, ap, arith, refl}
 use Rattle.std.specs.Option.{option_map}
 use Rattle.lmn_web_cells.specs.Rows.{Row, number}
 use Rattle.lmn_web_cells.specs.Cells.{cells_by, numbers_of, with_number}
