@@ -6,7 +6,7 @@ use Rattle.lmn_base.proofs.Truth.{if_no}
 use Rattle.std.specs.Option.{option_map}
 use denote.RawPtr.{Ptr, null_ptr}
 use Rattle.lmn_web_cells.specs.Rows.{Item, blank, link, number, halves, halves_in, with_half, half_at, with_half_at, Row, items_in, with_items, place_ptr, IsStart, place_of}
-use Rattle.lmn_web_cells.specs.Cells.{HeldPort, HeldCell, pointer_to, link_to, link_items, in_half, first_items, port_and_mark, cell_items, cell_by, cells_by, IsShaped, IsLaid, AreLaid, HaveFewPorts, HaveLinks, links_of, numbers_of, ports_of, no_port, with_link, with_number, with_to, with_port, with_mark}
+use Rattle.lmn_web_cells.specs.Cells.{HeldPort, HeldCell, pointer_to, link_to, link_items, in_half, first_items, port_and_mark, cell_items, cell_by, cells_by, IsShaped, IsLaid, AreLaid, HaveFewPorts, HaveLinks, HaveSmallClasses, links_of, numbers_of, ports_of, no_port, with_link, with_number, with_to, with_port, with_mark}
 use Rattle.lmn_store_heap.specs.Heap.{alter}
 use Rattle.lmn_store_heap.proofs.Listing.{alter_at, alter_away}
 use Rattle.lmn_web_cells.specs.CellIds.{IsLink, led_by}
@@ -140,6 +140,15 @@ class_read rows b all laid there e =
     let ns = numbers_of (cells_by rows b) in
     ap (λ m. m / 65536) e ∙ third_in (get_or ns 0 0) (get_or ns 1 0) (get_or ns 3 0) (small_fits rows b 0 laid there (omega arith)) (small_fits rows b 1 laid there (omega arith))
 
+-- the third one and the first
+pub key_read : (rows : List Row) (b all : ℕ) (laid : AreLaid rows) (there : IsSome (cells_by rows b)) → all ≡ in_half (get_or (numbers_of (cells_by rows b)) 0 0) (get_or (numbers_of (cells_by rows b)) 1 0) (get_or (numbers_of (cells_by rows b)) 3 0)
+    → (all / 256 / 256 ≡ get_or (numbers_of (cells_by rows b)) 3 0) × (all / 256 % 256 ≡ get_or (numbers_of (cells_by rows b)) 0 0)
+key_read rows b all laid there e =
+    let ns = numbers_of (cells_by rows b) in (twice all ∙ class_read rows b all laid there e, ap (λ m. m / 256 % 256) e ∙ first_in (get_or ns 0 0) (get_or ns 1 0) (get_or ns 3 0) (small_fits rows b 0 laid there (omega arith)) (small_fits rows b 1 laid there (omega arith)))
+  where
+    twice : (n : ℕ) → n / 256 / 256 ≡ n / 65536
+    twice n = omega arith
+
 -- the word of one of the two others
 pub number_is : (rows : List Row) (b k : ℕ) (laid : AreLaid rows) (there : IsSome (cells_by rows b)) → 4 ≤ k → k < 6
     → get_or (items_in rows b) (7 + k - 3) blank ≡ number (get_or (numbers_of (cells_by rows b)) k 0)
@@ -197,6 +206,16 @@ few_there rows b j laid low = by (cells_by rows b) refl low
 -- each port has a number below 256
 pub have_few_ports : (rows : List Row) → AreLaid rows → HaveFewPorts (cells_by rows)
 have_few_ports rows laid b j low = few_there rows b j laid low
+
+-- the upper half of each label is below 2 ^ 16
+pub have_small_classes : (rows : List Row) → AreLaid rows → HaveSmallClasses (cells_by rows)
+have_small_classes rows laid b = by (cells_by rows b) refl
+  where
+    by : (o : Option HeldCell) → cells_by rows b ≡ o → get_or (numbers_of o) 3 0 < 2 ^ 16
+    by None e = omega arith
+    by (Some c) e =
+        let f = found rows b laid (subst (λ (o : Option HeldCell). IsSome o) (sym e) refl) in
+        subst (λ (o : Option HeldCell). get_or (numbers_of o) 3 0 < 2 ^ 16) (sym f.is ∙ e) f.shaped.class
 
 -- Changing a row
 

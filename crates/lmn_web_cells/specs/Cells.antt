@@ -226,3 +226,7 @@ HaveLinks f = (a : ℕ) → IsSome (f a) → length (links_of (f a)) ≡ 8
 -- each port of a cell has a number below 256
 abbrev pub HaveFewPorts : (ℕ → Option HeldCell) → Type 0
 HaveFewPorts f = (a j : ℕ) → j < length (ports_of (f a)) → j < 256
+
+-- the upper half of the label of each cell is below 2 ^ 16
+abbrev pub HaveSmallClasses : (ℕ → Option HeldCell) → Type 0
+HaveSmallClasses f = (a : ℕ) → slice_index_or (numbers_of (f a)) HIGH 0 < 2 ^ 16

@@ -2,7 +2,7 @@
 //! numbers and a link more.
 ghost use Rattle.std.specs.Prelude.{◌≡◌, ◌≢◌, ◌==◌, if◌then◌else◌, ℕ, ◌+◌, ◌*◌, ◌/◌, ◌%◌, ◌^◌, ◌<◌, ◌≤◌, ◌∷◌, length, IsSome, None, Some, MatchResult, slice_index_or};
 ghost use Rattle.std.specs.Option.{option_map};
-ghost use Rattle.lmn_web_cells.specs.Cells.{cells_by, links_of, numbers_of, ports_of, port_of, with_link, with_number, with_to, with_port, with_mark, pointer_to, blank_cell, blank_membrane, IsNewIndex, HaveFewPorts, HaveLinks, IsLinkWord, link_of};
+ghost use Rattle.lmn_web_cells.specs.Cells.{cells_by, links_of, numbers_of, ports_of, port_of, with_link, with_number, with_to, with_port, with_mark, pointer_to, blank_cell, blank_membrane, IsNewIndex, HaveFewPorts, HaveLinks, HaveSmallClasses, IsLinkWord, link_of};
 ghost use Rattle.lmn_store_heap.specs.Heap.{alter};
 ghost use Rattle.lmn_web_cells.specs.CellIds.{cell_id, IsLink, led_by};
 
@@ -128,6 +128,14 @@ impl Cells {
         let _ = &self.rows;
     }
 
+    /// The upper half of each label is below 2^16.
+    #[inline(always)]
+    pub fn small_classes(&self)
+        ensures { HaveSmallClasses (cells_by self.now) }
+    {
+        let _ = &self.rows;
+    }
+
     /// The cell to which a link that each cell has leads.
     pub fn link(&self, c: Cell, k: usize) -> Option<Cell>
         requires there { IsSome (cells_by self.now (cell_id c)) }
@@ -217,6 +225,16 @@ impl Cells {
             return;
         }
         self.rows.set_number(c.at, LINKS + k - 3, n);
+    }
+
+    /// The upper half of a label and how many ports, as one number.
+    #[inline(always)]
+    pub fn key(&self, c: Cell) -> u64
+        requires { IsSome (cells_by self.now (cell_id c)) }
+        ensures class { result / 256 ≡ slice_index_or (numbers_of (cells_by self.now (cell_id c))) HIGH 0 }
+        ensures arity { result % 256 ≡ slice_index_or (numbers_of (cells_by self.now (cell_id c))) ARITY 0 }
+    {
+        (self.rows.half(c.at, SMALL) / 256) as u64
     }
 
     /// A number that only membranes have.
