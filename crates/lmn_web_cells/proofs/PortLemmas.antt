@@ -84,9 +84,13 @@ linked_after g f a i p k j e l = subst (λ (h : ℕ → Option HeldCell). IsPort
 pub cleared_after : (g f : ℕ → Option HeldCell) (p : Option (ℕ × ℕ)) (k j : ℕ) → g ≡ cleared f p → IsPort f k j → IsPort g k j
 cleared_after g f p k j e l = subst (λ (h : ℕ → Option HeldCell). IsPort h k j) (sym e) (cleared_ports f p k j l)
 
--- the six steps of a join
-pub join_is : (old one two three four : ℕ → Option HeldCell) (a i b j : ℕ) (ps : Option (ℕ × ℕ) × Option (ℕ × ℕ)) → partner_in old a i ≡ ps.0 → partner_in old b j ≡ ps.1
-    → one ≡ cleared old ps.0 → two ≡ cleared one ps.1 → three ≡ linked two a i (Some (b, j)) → four ≡ linked three b j (Some (a, i)) → four ≡ joined old a i b j
-join_is old one two three four a i b j ps p q d e f g =
-    g ∙ ap (λ (h : ℕ → Option HeldCell). linked h b j (Some (a, i))) (f ∙ ap (λ (h : ℕ → Option HeldCell). linked h a i (Some (b, j))) (e ∙ ap (λ (h : ℕ → Option HeldCell). cleared h ps.1) (d ∙ ap (cleared old) (sym p))
+-- after two partners were cleared each port is one
+pub both_after : (g f : ℕ → Option HeldCell) (p q : Option (ℕ × ℕ)) (k j : ℕ) → g ≡ cleared (cleared f p) q → IsPort f k j → IsPort g k j
+both_after g f p q k j e l = cleared_after g (cleared f p) q k j e (cleared_ports f p k j l)
+
+-- the five steps of a join
+pub join_is : (old two three four : ℕ → Option HeldCell) (a i b j : ℕ) (ps : Option (ℕ × ℕ) × Option (ℕ × ℕ)) → partner_in old a i ≡ ps.0 → partner_in old b j ≡ ps.1
+    → two ≡ cleared (cleared old ps.0) ps.1 → three ≡ linked two a i (Some (b, j)) → four ≡ linked three b j (Some (a, i)) → four ≡ joined old a i b j
+join_is old two three four a i b j ps p q e f g =
+    g ∙ ap (λ (h : ℕ → Option HeldCell). linked h b j (Some (a, i))) (f ∙ ap (λ (h : ℕ → Option HeldCell). linked h a i (Some (b, j))) (e ∙ ap (λ o. cleared (cleared old o) ps.1) (sym p)
     ∙ ap (cleared (cleared old (partner_in old a i))) (sym q)))

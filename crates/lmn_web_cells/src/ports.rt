@@ -45,6 +45,19 @@ fn clear(cells: &mut Cells, port: Option<(Cell, u64)>)
     }
 }
 
+// Two ports, where they are some, have no partner.
+fn clear_both(cells: &mut Cells, first: Option<(Cell, u64)>, second: Option<(Cell, u64)>)
+    requires first { IfSome first (λ p. IsPort (cells_by cells.old) (cell_id p.0) p.1) }
+    requires second { IfSome second (λ p. IsPort (cells_by cells.old) (cell_id p.0) p.1) }
+    ensures { cells_by cells.new ≡ cleared (cleared (cells_by cells.old) (option_map port_id first)) (option_map port_id second) }
+{
+    if first.is_none() && second.is_none() {
+        return;
+    }
+    clear(cells, first);
+    clear(cells, second);
+}
+
 /// The two ports become partners. A former partner of either has none.
 pub fn join(cells: &mut Cells, a: Cell, i: usize, b: Cell, j: usize)
     requires a { IsPort (cells_by cells.old) (cell_id a) i }
@@ -58,8 +71,7 @@ pub fn join(cells: &mut Cells, a: Cell, i: usize, b: Cell, j: usize)
     cells.few_ports();
     let first = partner(cells, a, i);
     let second = partner(cells, b, j);
-    clear(cells, first);
-    clear(cells, second);
+    clear_both(cells, first, second);
     set_partner(cells, a, i, Some((b, j as u64)));
     set_partner(cells, b, j, Some((a, i as u64)));
 }
