@@ -1,11 +1,11 @@
 -- What the links of classes tell of the web.
-use Rattle.std.proofs.Common.{◌≡◌, ◌==◌, ◌&&◌, ◌^◌, ◌<◌, ℕ, List, [], ◌∷◌, ◌++◌, length, get_or, Option, Some, None, IsSome, refl, sym, ap, subst, ◌∙◌, arith}
+use Rattle.std.proofs.Common.{◌≡◌, ◌==◌, ◌&&◌, ◌^◌, ◌<◌, ◌≤◌, ℕ, Bool, true, false, cond, List, [], ◌∷◌, ◌++◌, length, get_or, Option, Some, None, IsSome, refl, sym, ap, subst, ◌∙◌, arith}
 use Rattle.std.proofs.lemmas.List.{length-map}
 use Rattle.std.specs.Option.{option_map}
 use Rattle.lmn_base.specs.Lists.{In}
 use Rattle.lmn_store_heap.specs.Lists.{Distinct, from, after}
 use Rattle.lmn_store_heap.proofs.ListLemmas.{in_split}
-use Rattle.lmn_web_cells.specs.Cells.{HeldCell, numbers_of, ports_of}
+use Rattle.lmn_web_cells.specs.Cells.{HeldCell, HaveSmallClasses, numbers_of, ports_of}
 use Rattle.lmn_web_cells.specs.Ports.{partner_by}
 use Rattle.lmn_web_cells.specs.Runs.{link_in}
 use Rattle.lmn_web.specs.declared.kind.CellKind.TheVariants.{Atom}
@@ -37,6 +37,19 @@ class_test f made w a class n t = by (f a) t (w.classed.low a) (w.web.arity a t)
 pub class_list : (f : ℕ → Option HeldCell) (made : ℕ) → IsClassedWeb f made → (m class n : ℕ) → with_class (web_of f) class n (cells_in (web_of f) m Atom) ≡ of_class f (class, n) (list_in f m Atom)
 class_list f made w m class n = ap (with_class (web_of f) class n) (list_same f (list_in f) w.web.listed m Atom)
     ∙ filter_same (is_classed (web_of f) class n) (λ a. is_key (key_in f a) (class, n)) (list_in f m Atom) (λ x i. class_test f made w x class n (cell_of f (list_in f) w.web.listed m x Atom i).0)
+
+-- no atom has a class that is no label's
+none_of_class : (f : ℕ → Option HeldCell) (p : ℕ × ℕ) → HaveSmallClasses f → 2 ^ 16 ≤ p.0 → (xs : List ℕ) → of_class f p xs ≡ []
+none_of_class f p small high [] = refl
+none_of_class f p small high (x ∷ xs) = by (is_key (key_in f x) p) refl (none_of_class f p small high xs)
+  where
+    by : (b : Bool) → is_key (key_in f x) p ≡ b → of_class f p xs ≡ [] → cond b (x ∷ of_class f p xs) (of_class f p xs) ≡ []
+    by true e rest = absurd (let same = ap (λ q. q.0) (key_true (key_in f x) p e) in let low = small x in omega (arith, high, same, low))
+    by false e rest = rest
+
+-- in the web too
+pub none_classed : (f : ℕ → Option HeldCell) (made : ℕ) → IsClassedWeb f made → HaveSmallClasses f → (m class n : ℕ) → 2 ^ 16 ≤ class → with_class (web_of f) class n (cells_in (web_of f) m Atom) ≡ []
+none_classed f made w small m class n high = class_list f made w m class n ∙ none_of_class f (class, n) small high (list_in f m Atom)
 
 -- where a class begins: behind its last one
 pub class_begins : (f : ℕ → Option HeldCell) (m : ℕ) (xs : List ℕ) (t : ClassTree) → AreClassed f m xs t → (In m xs → ⊥) → (p : ℕ × ℕ) (l : ℕ) → top (place_in f p m t).tree ≡ Some l → from (link_in f l CLASS_NEXT) (of_class f p xs) ≡ of_class f p xs

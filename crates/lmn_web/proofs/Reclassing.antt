@@ -1,13 +1,13 @@
 -- One class of a membrane changes.
-use Rattle.std.proofs.Common.{◌≡◌, ◌==◌, ℕ, Bool, true, false, List, [], suc, Option, Some, None, refl, sym, ap, subst, ◌∙◌, inl, inr}
+use Rattle.std.proofs.Common.{◌≡◌, ◌==◌, ◌/◌, ◌%◌, ℕ, arith, Bool, true, false, List, [], suc, Option, Some, None, refl, sym, ap, subst, ◌∙◌, inl, inr}
 use Rattle.std.proofs.lemmas.Bool.{eq-eqb, eqb-true}
 use Rattle.std.specs.List.{filter}
 use Rattle.lmn_base.specs.Lists.{In}
-use Rattle.lmn_base.proofs.Truth.{bool_cases, and_true}
+use Rattle.lmn_base.proofs.Truth.{bool_cases, and_true, test_same}
 use Rattle.lmn_store_heap.proofs.ListLemmas.{in_left, in_right}
 use Rattle.lmn_web_cells.specs.Cells.{HeldCell}
 use Rattle.lmn_web_cells.specs.Runs.{link_in}
-use Rattle.lmn_web.specs.Classes.{ClassTree, Bare, Fork, lasts, IsTree, AreBeside, IsSorted, rest_at, is_odd, class_node, key_in, is_key, of_class, IsRing, AreClassed}
+use Rattle.lmn_web.specs.Classes.{ClassTree, Bare, Fork, lasts, IsTree, AreBeside, IsSorted, rest_at, is_odd, class_node, key_by, key_in, is_key, of_class, IsRing, AreClassed}
 use Rattle.lmn_web_cells.specs.Links.{EVEN, LEADERS}
 use Rattle.lmn_web.proofs.Rings.{linked_frame, ring_last}
 use Rattle.lmn_store_heap.proofs.Filters.{in_filter, filter_in}
@@ -21,6 +21,17 @@ key_same p = rw (eq-eqb p.0 p.0 refl) (eq-eqb p.1 p.1 refl)
 -- and no other does
 pub key_true : (p q : ℕ × ℕ) → is_key p q ≡ true → p ≡ q
 key_true p q e = let w = and_true (p.0 == q.0) (p.1 == q.1) e in λ t. (eqb-true p.0 q.0 w.0 t, eqb-true p.1 q.1 w.1 t)
+
+-- one number tells a class
+whole_key : (n k a b : ℕ) → n / 256 ≡ a → n % 256 ≡ b → a ≡ k / 256 → b ≡ k % 256 → n ≡ k
+whole_key n k a b h l x y = omega (arith, h, l, x, y)
+
+-- so classes are the same where their numbers are
+pub same_keys : (n k : ℕ) (p : ℕ × ℕ) → n / 256 ≡ p.0 → n % 256 ≡ p.1 → (n == k) ≡ is_key p (key_by k)
+same_keys n k p h l =
+    test_same (n == k) (is_key p (key_by k))
+    (λ e. let d = sym (eqb-true n k e) in subst (λ q. is_key q (key_by k) ≡ true) (λ t. ((ap (λ m. m / 256) d ∙ h) t, (ap (λ m. m % 256) d ∙ l) t)) (key_same (key_by k)))
+    (λ e. let w = and_true (p.0 == k / 256) (p.1 == k % 256) e in eq-eqb n k (whole_key n k p.0 p.1 h l (eqb-true p.0 (k / 256) w.0) (eqb-true p.1 (k % 256) w.1)))
 
 -- an element that nothing may be isn't there
 pub nothing_in : (xs : List ℕ) → xs ≡ [] → (z : ℕ) → In z xs → ⊥

@@ -25,6 +25,10 @@ files f m Membrane = false
 abbrev pub key_in : (ℕ → Option HeldCell) → ℕ → ℕ × ℕ
 key_in f a = (number_in f a HIGH, number_in f a ARITY)
 
+-- the class that is told by one number
+abbrev pub key_by : ℕ → ℕ × ℕ
+key_by n = (n / 256, n % 256)
+
 abbrev pub is_key : ℕ × ℕ → ℕ × ℕ → Bool
 is_key p q = (p.0 == q.0) && (p.1 == q.1)
 

@@ -1,5 +1,5 @@
-//! The atoms of a membrane that files them by class: the high half of a label, and how many ports.
-ghost use Rattle.std.specs.Prelude.{◌≡◌, ◌⊎◌, ◌<◌, ◌∷◌, ℕ, List, None, Some, IfSome, IsSome, is_some, if◌then◌else◌, length, true};
+//! The atoms of a membrane that files them by class: the high half of a label, and how many ports, as one number.
+ghost use Rattle.std.specs.Prelude.{◌≡◌, ◌⊎◌, ◌<◌, ◌^◌, ◌∷◌, ℕ, List, None, Some, IfSome, IsSome, is_some, if◌then◌else◌, length, true};
 ghost use Rattle.std.specs.Option.{option_map};
 ghost use Rattle.lmn_base.specs.Lists.{In};
 ghost use Rattle.lmn_web_cells.specs.Cells.{cells_by, numbers_of, IsLinkWord, link_of};
@@ -10,13 +10,16 @@ ghost use Rattle.lmn_web_cells.specs.Runs.{Line, link_in};
 ghost use Rattle.lmn_web.specs.declared.kind.CellKind.TheVariants.{Atom};
 ghost use Rattle.lmn_web.specs.Kinds.{kind_by};
 ghost use Rattle.lmn_web.specs.Webs.{list_in, number_in};
-ghost use Rattle.lmn_web.specs.Classes.{ClassTree, AreClassed, IsTree, IsSorted, FiledAs, MayEnter, MayFile, MayLeave, begun, closed, dropped, ends_class, files, is_key, is_odd, key_in, lengthened, lowest_below, place_in, put_between, put_inside, of_class, shortened, taken_over, top, IsInItsClass, IsFiledLast, IsFiledBefore, IsUnfiled};
+ghost use Rattle.lmn_web.specs.Classes.{ClassTree, AreClassed, IsTree, IsSorted, FiledAs, MayEnter, MayFile, MayLeave, begun, closed, dropped, ends_class, files, is_key, is_odd, key_by, key_in, lengthened, lowest_below, place_in, put_between, put_inside, of_class, shortened, taken_over, top, IsInItsClass, IsFiledLast, IsFiledBefore, IsUnfiled};
 
 use crate::kind::{CellKind, FILED};
 use lmn_web_cells::cell::Cells;
 use lmn_web_cells::handle::Cell;
 use lmn_web_cells::links::{ATOMS, CLASS_NEXT, CLASS_PREV, EVEN, LEADERS_WORD, NEXT, ODD, PREV};
-use lmn_web_cells::numbers::{ARITY, HIGH, KIND};
+use lmn_web_cells::numbers::KIND;
+
+// Below this is how many ports an atom has, which stands below the high half of its label.
+const KEYS: u64 = 256;
 
 // A place in the tree of the last atoms of the classes: what hangs at a link of the membrane, or of the last atom above.
 #[derive(Clone, Copy)]
@@ -39,12 +42,20 @@ pub fn is_filed(cells: &Cells, m: Cell, kind: CellKind) -> bool
     }
 }
 
-// Whether an atom has a class.
-fn has_class(cells: &Cells, c: Cell, high: u64, arity: u64) -> bool
-    requires { IsSome (cells_by cells.now (cell_id c)) }
-    ensures { result ≡ is_key (key_in (cells_by cells.now) (cell_id c)) (high, arity) }
+/// The number that tells a class.
+pub fn key_of(high: u64, arity: u8) -> u64
+    requires { high < 2 ^ 16 }
+    ensures { key_by result ≡ (high, arity) }
 {
-    cells.number(c, HIGH) == high && cells.number(c, ARITY) == arity
+    high * KEYS + arity as u64
+}
+
+// Whether an atom has a class.
+fn has_class(cells: &Cells, c: Cell, key: u64) -> bool
+    requires { IsSome (cells_by cells.now (cell_id c)) }
+    ensures { result ≡ is_key (key_in (cells_by cells.now) (cell_id c)) (key_by key) }
+{
+    cells.key(c) == key
 }
 
 // The link of a last atom on the side to which a number goes.
@@ -55,20 +66,20 @@ fn side(rest: u64) -> usize
 }
 
 // Where a membrane has the last atom of a class, or would have it.
-fn find(cells: &Cells, m: Cell, high: u64, arity: u64) -> Place
+fn find(cells: &Cells, m: Cell, key: u64) -> Place
     requires there { IsSome (cells_by cells.now (cell_id m)) }
     requires membrane { length (numbers_of (cells_by cells.now (cell_id m))) ≡ 8 }
     requires tree { (t : ClassTree) × IsTree (cells_by cells.now) (link_in (cells_by cells.now) (cell_id m) LEADERS) t × IsSorted (cells_by cells.now) 0 t }
     ensures word { (result.word < 7) ⊎ (result.word ≡ LEADERS_WORD) }
     ensures place { (t : ClassTree) → IsTree (cells_by cells.now) (link_in (cells_by cells.now) (cell_id m) LEADERS) t →
-        let w = place_in (cells_by cells.now) (high, arity) (cell_id m) t in (cell_id result.holder ≡ w.holder) × (link_of result.word ≡ w.link) × (option_map cell_id result.last ≡ top w.tree) }
+        let w = place_in (cells_by cells.now) (key_by key) (cell_id m) t in (cell_id result.holder ≡ w.holder) × (link_of result.word ≡ w.link) × (option_map cell_id result.last ≡ top w.tree) }
 {
     let mut holder = m;
     let mut word = LEADERS_WORD;
-    let mut rest = high;
+    let mut rest = key / KEYS;
     let mut at = cells.last_link(m);
     while let Some(c) = at {
-        if has_class(cells, c, high, arity) {
+        if has_class(cells, c, key) {
             return Place {
                 holder,
                 word,
@@ -88,16 +99,16 @@ fn find(cells: &Cells, m: Cell, high: u64, arity: u64) -> Place
 }
 
 // The last atom of a class of a membrane that files, without the place at which it hangs.
-fn last_of(cells: &Cells, m: Cell, high: u64, arity: u64) -> Option<Cell>
+fn last_of(cells: &Cells, m: Cell, key: u64) -> Option<Cell>
     requires there { IsSome (cells_by cells.now (cell_id m)) }
     requires membrane { length (numbers_of (cells_by cells.now (cell_id m))) ≡ 8 }
     requires tree { (t : ClassTree) × IsTree (cells_by cells.now) (link_in (cells_by cells.now) (cell_id m) LEADERS) t × IsSorted (cells_by cells.now) 0 t }
-    ensures { (t : ClassTree) → IsTree (cells_by cells.now) (link_in (cells_by cells.now) (cell_id m) LEADERS) t → option_map cell_id result ≡ top (place_in (cells_by cells.now) (high, arity) (cell_id m) t).tree }
+    ensures { (t : ClassTree) → IsTree (cells_by cells.now) (link_in (cells_by cells.now) (cell_id m) LEADERS) t → option_map cell_id result ≡ top (place_in (cells_by cells.now) (key_by key) (cell_id m) t).tree }
 {
-    let mut rest = high;
+    let mut rest = key / KEYS;
     let mut at = cells.last_link(m);
     while let Some(c) = at {
-        if has_class(cells, c, high, arity) {
+        if has_class(cells, c, key) {
             return Some(c);
         }
         let link = side(rest);
@@ -161,15 +172,15 @@ fn is_last(cells: &Cells, c: Cell) -> bool
 }
 
 // The first atom of a class from one of a membrane's list on, if there is one.
-fn seek(cells: &Cells, m: Cell, start: Option<Cell>, high: u64, arity: u64) -> Option<Cell>
+fn seek(cells: &Cells, m: Cell, start: Option<Cell>, key: u64) -> Option<Cell>
     requires line { Line (cells_by cells.now) (cell_id m) ATOMS (list_in (cells_by cells.now) (cell_id m) Atom) }
     requires start { IfSome start (λ c. In (cell_id c) (list_in (cells_by cells.now) (cell_id m) Atom)) }
     ensures { let f = cells_by cells.now in let all = list_in f (cell_id m) Atom in
-        from (option_map cell_id result) (of_class f (high, arity) all) ≡ of_class f (high, arity) (from (option_map cell_id start) all) }
+        from (option_map cell_id result) (of_class f (key_by key) all) ≡ of_class f (key_by key) (from (option_map cell_id start) all) }
 {
     let mut at = start;
     while let Some(c) = at {
-        if has_class(cells, c, high, arity) {
+        if has_class(cells, c, key) {
             return Some(c);
         }
         at = cells.link(c, NEXT);
@@ -178,20 +189,20 @@ fn seek(cells: &Cells, m: Cell, start: Option<Cell>, high: u64, arity: u64) -> O
 }
 
 /// The first atom of a class in a membrane.
-pub fn first_in(cells: &Cells, m: Cell, high: u64, arity: u64) -> Option<Cell>
+pub fn first_in(cells: &Cells, m: Cell, key: u64) -> Option<Cell>
     requires there { IsSome (cells_by cells.now (cell_id m)) }
     requires membrane { files (cells_by cells.now) (cell_id m) Atom ≡ true → length (numbers_of (cells_by cells.now (cell_id m))) ≡ 8 }
     requires line { Line (cells_by cells.now) (cell_id m) ATOMS (list_in (cells_by cells.now) (cell_id m) Atom) }
     requires classes { files (cells_by cells.now) (cell_id m) Atom ≡ true → (t : ClassTree) × AreClassed (cells_by cells.now) (cell_id m) (list_in (cells_by cells.now) (cell_id m) Atom) t }
-    ensures { let f = cells_by cells.now in let own = of_class f (high, arity) (list_in f (cell_id m) Atom) in from (option_map cell_id result) own ≡ own }
+    ensures { let f = cells_by cells.now in let own = of_class f (key_by key) (list_in f (cell_id m) Atom) in from (option_map cell_id result) own ≡ own }
 {
     if is_filed(cells, m, CellKind::Atom) {
-        match last_of(cells, m, high, arity) {
+        match last_of(cells, m, key) {
             None => None,
             Some(last) => Some(cells.target(last, CLASS_NEXT)),
         }
     } else {
-        seek(cells, m, cells.link(m, ATOMS), high, arity)
+        seek(cells, m, cells.link(m, ATOMS), key)
     }
 }
 
@@ -212,13 +223,7 @@ pub fn next_in(cells: &Cells, m: Cell, c: Cell) -> Option<Cell>
             Some(cells.target(c, CLASS_NEXT))
         }
     } else {
-        seek(
-            cells,
-            m,
-            cells.link(c, NEXT),
-            cells.number(c, HIGH),
-            cells.number(c, ARITY),
-        )
+        seek(cells, m, cells.link(c, NEXT), cells.key(c))
     }
 }
 
@@ -237,12 +242,11 @@ pub fn place_from(cells: &Cells, m: Cell, filed: bool, start: Cell, c: Cell) -> 
     if !filed {
         return None;
     }
-    let high = cells.number(c, HIGH);
-    let arity = cells.number(c, ARITY);
+    let key = cells.key(c);
     if cells.link(start, PREV).is_none() {
-        first_in(cells, m, high, arity)
+        first_in(cells, m, key)
     } else {
-        seek(cells, m, Some(start), high, arity)
+        seek(cells, m, Some(start), key)
     }
 }
 
@@ -359,9 +363,8 @@ pub fn file_last(cells: &mut Cells, m: Cell, c: Cell)
     ensures { IsFiledLast (cells_by cells.old) (cells_by cells.new) (cell_id m) (cell_id c) }
 {
     cells.whole();
-    let high = cells.number(c, HIGH);
-    let arity = cells.number(c, ARITY);
-    let found = find(cells, m, high, arity);
+    let key = cells.key(c);
+    let found = find(cells, m, key);
     match found.last {
         None => begin(cells, found.holder, found.word, c),
         Some(last) => {
@@ -390,9 +393,8 @@ fn unfile_last(cells: &mut Cells, m: Cell, c: Cell, prev: Cell, next: Cell)
     ensures { IsUnfiled (cells_by cells.old) (cells_by cells.new) (cell_id m) (cell_id c) }
 {
     cells.whole();
-    let high = cells.number(c, HIGH);
-    let arity = cells.number(c, ARITY);
-    let found = find(cells, m, high, arity);
+    let key = cells.key(c);
+    let found = find(cells, m, key);
     if is_last(cells, prev) {
         let leaf = lowest(cells, c);
         drop_class(cells, found.holder, found.word, c, leaf);

@@ -13,7 +13,7 @@ ghost use Rattle.lmn_web.specs.Kinds.{kind_by, FILED};
 ghost use Rattle.lmn_web.specs.Indexes.{described, bare_atoms, AreSized, Without, blank_by, most_cells, numbers_by};
 ghost use Rattle.lmn_web.specs.declared.kind.CellKind.TheVariants.{Atom, Membrane};
 
-use crate::classes::{enter_class, first_in, is_filed, leave_class, next_in, place_from};
+use crate::classes::{enter_class, first_in, is_filed, key_of, leave_class, next_in, place_from};
 use crate::fronts;
 use crate::kind::{CellKind, count_place, first_link, kind_of, number_of};
 use lmn_web_cells::cell::Cells;
@@ -26,6 +26,9 @@ use std::marker::Model;
 
 // The first number that doesn't fit into half a label.
 const WHOLE: u128 = 0x1_0000_0000_0000_0000;
+
+// Below this is the class of each label.
+const CLASSES: u64 = 65_536;
 
 /// A web of cells.
 pub struct Web {
@@ -243,7 +246,11 @@ impl Web {
         ensures list { let all = with_class (web_by self.now) class arity (cells_in (web_by self.now) (cell_id home) Atom) in from (option_map cell_id result) all ≡ all }
         ensures there { IfSome result (λ c. In (cell_id c) (cells_in (web_by self.now) (cell_id home) Atom)) }
     {
-        first_in(&self.cells, home, class, arity as u64)
+        self.cells.small_classes();
+        if class >= CLASSES {
+            return None;
+        }
+        first_in(&self.cells, home, key_of(class, arity))
     }
 
     /// The next atom behind this one in its list with a label of its class and as many ports.

@@ -1,4 +1,4 @@
-use Rattle.std.proofs.Common.{◌≡◌, ℕ, Some, refl, sym, ap, subst, ◌∙◌}
+use Rattle.std.proofs.Common.{◌≡◌, Some, refl, sym, ap, subst, ◌∙◌}
 use Rattle.std.specs.Option.{option_map}
 use Rattle.lmn_base.specs.Lists.{In}
 use Rattle.lmn_store_heap.specs.Lists.{from}
@@ -8,7 +8,7 @@ use Rattle.lmn_web_cells.specs.CellIds.{cell_id}
 use Rattle.lmn_web_cells.specs.Runs.{link_in}
 use Rattle.lmn_web.specs.declared.kind.CellKind.TheVariants.{Atom}
 use Rattle.lmn_web.specs.Webs.{list_in}
-use Rattle.lmn_web.specs.Classes.{of_class, place_in, top}
+use Rattle.lmn_web.specs.Classes.{key_by, of_class, place_in, top}
 use Rattle.lmn_web.proofs.ClassPlaces.{class_none, last_in}
 use Rattle.lmn_web.proofs.ListedLemmas.{begins_list, from_in, if_some, some_there}
 use Rattle.lmn_web.proofs.ClassReads.{class_begins, class_first}
@@ -20,7 +20,7 @@ last_of-requires-clause-tree c =
 
 pub target-requires-clause-there : goal.target-requires-clause-there
 target-requires-clause-there c =
-    let f = cells_by c.args.cells.now in let m = cell_id c.args.m in let p : ℕ × ℕ = (c.args.high, c.args.arity) in
+    let f = cells_by c.args.cells.now in let m = cell_id c.args.m in let p = key_by c.args.key in
     let o = c.requires.classes (sym c.is_filed.ensures ∙ c.if-is_filed.true) in
     let l = cell_id c.in-Some.last in
     let no_m : In m (list_in f m Atom) → ⊥ = λ i. (each_in _ _ m c.requires.line.cells i).1 refl in
@@ -29,21 +29,21 @@ target-requires-clause-there c =
 
 pub returns-in-None : goal.returns-in-None
 returns-in-None c =
-    let f = cells_by c.args.cells.now in let m = cell_id c.args.m in let p : ℕ × ℕ = (c.args.high, c.args.arity) in
+    let f = cells_by c.args.cells.now in let m = cell_id c.args.m in let p = key_by c.args.key in
     let o = c.requires.classes (sym c.is_filed.ensures ∙ c.if-is_filed.true) in
     let no_m : In m (list_in f m Atom) → ⊥ = λ i. (each_in _ _ m c.requires.line.cells i).1 refl in
     sym (class_none f m (list_in f m Atom) o.0 o.1 no_m p (sym (c.last_of.ensures o.0 o.1.tree) ∙ ap (option_map cell_id) c.in-None.is))
 
 pub target-requires-clause-leads : goal.target-requires-clause-leads
 target-requires-clause-leads c =
-    let f = cells_by c.args.cells.now in let m = cell_id c.args.m in let p : ℕ × ℕ = (c.args.high, c.args.arity) in
+    let f = cells_by c.args.cells.now in let m = cell_id c.args.m in let p = key_by c.args.key in
     let o = c.requires.classes (sym c.is_filed.ensures ∙ c.if-is_filed.true) in
     let no_m : In m (list_in f m Atom) → ⊥ = λ i. (each_in _ _ m c.requires.line.cells i).1 refl in
     some_there _ (λ e. class_first f m (list_in f m Atom) o.0 o.1 no_m p (cell_id c.in-Some.last) (sym (c.last_of.ensures o.0 o.1.tree) ∙ ap (option_map cell_id) c.in-Some.is) e)
 
 pub returns-in-Some : goal.returns-in-Some
 returns-in-Some c =
-    let f = cells_by c.args.cells.now in let m = cell_id c.args.m in let p : ℕ × ℕ = (c.args.high, c.args.arity) in
+    let f = cells_by c.args.cells.now in let m = cell_id c.args.m in let p = key_by c.args.key in
     let o = c.requires.classes (sym c.is_filed.ensures ∙ c.if-is_filed.true) in
     let l = cell_id c.in-Some.last in let own = of_class f p (list_in f m Atom) in
     let no_m : In m (list_in f m Atom) → ⊥ = λ i. (each_in _ _ m c.requires.line.cells i).1 refl in
@@ -56,6 +56,6 @@ seek-requires-clause-start c =
 
 pub returns-else-is_filed : goal.returns-else-is_filed
 returns-else-is_filed c =
-    let f = cells_by c.args.cells.now in let m = cell_id c.args.m in let all = list_in f m Atom in let p : ℕ × ℕ = (c.args.high, c.args.arity) in
+    let f = cells_by c.args.cells.now in let m = cell_id c.args.m in let all = list_in f m Atom in let p = key_by c.args.key in
     let begins : from (option_map cell_id c.link.result) all ≡ all = subst (λ o. from o all ≡ all) c.link.ensures (begins_list f m 3 all c.requires.line) in
     c.seek.ensures ∙ ap (of_class f p) begins

@@ -1,16 +1,17 @@
-use Rattle.std.proofs.Common.{◌≡◌, ◌<◌, ◌/◌, ℕ, Some, length, sym, ap, subst, ◌∙◌}
+use Rattle.std.proofs.Common.{◌≡◌, ◌<◌, ◌/◌, Some, length, sym, ap, subst, ◌∙◌}
 use Rattle.std.specs.Option.{option_map}
 use Rattle.lmn_web_cells.specs.Cells.{cells_by}
 use Rattle.lmn_web_cells.specs.CellIds.{cell_id}
 use Rattle.lmn_web_cells.specs.Runs.{link_in}
 use Rattle.lmn_web_cells.specs.Links.{LEADERS}
+use Rattle.lmn_web.specs.Classes.{key_by}
 use Rattle.lmn_web.proofs.ClassLemmas.{Left, bulk, tree_small, side_of, left_all, left_next, left_found, left_none, left_there}
 use Rattle.lmn_web.proofs.classes.last_of.Goals as goal
 
 pub loop-at-init : goal.loop-at-init
 loop-at-init c =
-    let f = cells_by c.args.cells.now in let m = cell_id c.args.m in let n = length c.args.cells.now in let p : ℕ × ℕ = (c.args.high, c.args.arity) in let l = c.requires.tree in
-    (m, LEADERS, subst (λ o. Left f p m n m LEADERS c.args.high o) c.last_link-at.ensures (left_all f p m n l.0 l.1 (tree_small c.args.cells.now (link_in f m LEADERS) 0 l.0 l.1 l.2)))
+    let f = cells_by c.args.cells.now in let m = cell_id c.args.m in let n = length c.args.cells.now in let p = key_by c.args.key in let l = c.requires.tree in
+    (m, LEADERS, subst (λ o. Left f p m n m LEADERS (c.args.key / 256) o) c.last_link-at.ensures (left_all f p m n l.0 l.1 (tree_small c.args.cells.now (link_in f m LEADERS) 0 l.0 l.1 l.2)))
 
 pub has_class-requires : goal.has_class-requires
 has_class-requires c = left_there (cells_by c.args.cells.now) _ _ _ _ _ _ _ (rw c.in-Some.is at c.loop-at.invariant.2)
@@ -23,14 +24,14 @@ returns-then-has_class c t hangs = (left_found (cells_by c.args.cells.now) _ _ _
 
 pub loop-at-smaller : goal.loop-at-smaller
 loop-at-smaller c =
-    let f = cells_by c.args.cells.now in let m = cell_id c.args.m in let n = length c.args.cells.now in let p : ℕ × ℕ = (c.args.high, c.args.arity) in let x = cell_id c.in-Some.c in
+    let f = cells_by c.args.cells.now in let m = cell_id c.args.m in let n = length c.args.cells.now in let p = key_by c.args.key in let x = cell_id c.in-Some.c in
     let next = left_next f p m n _ _ c.loop-at.rest x (rw c.in-Some.is at c.loop-at.invariant.2) (sym c.has_class.ensures ∙ c.if-has_class.false) in
     let read : link_in f x (side_of c.loop-at.rest) ≡ option_map cell_id c.link-at.result = ap (link_in f x) (sym c.side-link.ensures) ∙ c.link-at.ensures in
     subst (λ o. bulk f n (option_map cell_id c.link-at.result) < bulk f n (option_map cell_id o)) (sym c.in-Some.is) (subst (λ o. bulk f n o < bulk f n (Some x)) read next.1)
 
 pub loop-at-preserved : goal.loop-at-preserved
 loop-at-preserved c =
-    let f = cells_by c.args.cells.now in let m = cell_id c.args.m in let n = length c.args.cells.now in let p : ℕ × ℕ = (c.args.high, c.args.arity) in let x = cell_id c.in-Some.c in
+    let f = cells_by c.args.cells.now in let m = cell_id c.args.m in let n = length c.args.cells.now in let p = key_by c.args.key in let x = cell_id c.in-Some.c in
     let next = left_next f p m n _ _ c.loop-at.rest x (rw c.in-Some.is at c.loop-at.invariant.2) (sym c.has_class.ensures ∙ c.if-has_class.false) in
     let read : link_in f x (side_of c.loop-at.rest) ≡ option_map cell_id c.link-at.result = ap (link_in f x) (sym c.side-link.ensures) ∙ c.link-at.ensures in
     (x, side_of c.loop-at.rest, subst (λ o. Left f p m n x (side_of c.loop-at.rest) (c.loop-at.rest / 2) o) read next.0)

@@ -1,4 +1,4 @@
-use Rattle.std.proofs.Common.{◌≡◌, ℕ, true, false, sym, ap, subst, ◌∙◌}
+use Rattle.std.proofs.Common.{◌≡◌, true, false, sym, ap, subst, ◌∙◌}
 use Rattle.std.specs.Option.{option_map}
 use Rattle.lmn_store_heap.specs.Lists.{from, after}
 use Rattle.lmn_store_heap.proofs.ListLemmas.{each_in}
@@ -7,7 +7,7 @@ use Rattle.lmn_web_cells.specs.CellIds.{cell_id}
 use Rattle.lmn_web.specs.declared.kind.CellKind.TheVariants.{Atom}
 use Rattle.lmn_web.specs.Webs.{list_in}
 use Rattle.lmn_base.specs.Lists.{In}
-use Rattle.lmn_web.specs.Classes.{key_in, is_key, lasts, of_class}
+use Rattle.lmn_web.specs.Classes.{key_by, key_in, is_key, lasts, of_class}
 use Rattle.lmn_web.proofs.ClassEnds.{even_alive, ends_last, files_membrane, last_ends}
 use Rattle.lmn_web.proofs.ListedLemmas.{goes_on, some_there}
 use Rattle.lmn_web.proofs.SeekLemmas.{next_some}
@@ -31,11 +31,8 @@ target-requires-clause-there c = (each_in _ _ (cell_id c.args.c) c.requires.line
 pub link-requires-clause-there : goal.link-requires-clause-there
 link-requires-clause-there c = (each_in _ _ (cell_id c.args.c) c.requires.line.cells c.requires.inside).0
 
-pub number-requires-clause-there : goal.number-requires-clause-there
-number-requires-clause-there c = (each_in _ _ (cell_id c.args.c) c.requires.line.cells c.requires.inside).0
-
-pub number-requires-else-is_filed-clause-there : goal.number-requires-else-is_filed-clause-there
-number-requires-else-is_filed-clause-there c = (each_in _ _ (cell_id c.args.c) c.requires.line.cells c.requires.inside).0
+pub key-requires : goal.key-requires
+key-requires c = (each_in _ _ (cell_id c.args.c) c.requires.line.cells c.requires.inside).0
 
 pub target-requires-clause-leads : goal.target-requires-clause-leads
 target-requires-clause-leads c =
@@ -66,7 +63,7 @@ pub returns-else-is_filed : goal.returns-else-is_filed
 returns-else-is_filed c =
     let f = cells_by c.args.cells.now in let m = cell_id c.args.m in let x = cell_id c.args.c in let all = list_in f m Atom in
     let on : from (option_map cell_id c.link.result) all ≡ after x all = ap (λ o. from o all) (sym c.link.ensures) ∙ goes_on f m 3 x all c.requires.line c.requires.inside in
-    let q : ℕ × ℕ = (c.number.result, c.number-else-is_filed.result) in let key : q ≡ key_in f x = λ t. (c.number.ensures t, c.number-else-is_filed.ensures t) in
+    let key : key_by c.key.result ≡ key_in f x = λ t. (c.key.ensures.class t, c.key.ensures.arity t) in
     let p = key_in f x in let r = option_map cell_id c.seek.result in
     let found : from r (of_class f p all) ≡ of_class f p (from (option_map cell_id c.link.result) all) = subst (λ k. from r (of_class f k all) ≡ of_class f k (from (option_map cell_id c.link.result) all)) key c.seek.ensures in
     found ∙ ap (of_class f p) on ∙ sym (filter_after (λ a. is_key (key_in f a) p) x all (key_same p))

@@ -1,17 +1,14 @@
 use Rattle.std.proofs.Common.{◌≡◌, ◌<◌, ℕ, Option, IsSome, sym, ap, subst, ◌∙◌}
 use Rattle.lmn_web_cells.specs.Cells.{HeldCell, cells_by, IsLinkWord, link_of}
 use Rattle.lmn_web_cells.specs.CellIds.{cell_id}
-use Rattle.lmn_web.specs.Classes.{key_in, place_in, shortened, dropped, Refiled}
+use Rattle.lmn_web.specs.Classes.{key_by, key_in, place_in, shortened, dropped, Refiled}
 use Rattle.lmn_web.proofs.ListedLemmas.{if_some}
 use Rattle.lmn_web.proofs.ClassLemmas.{lowest_there}
 use Rattle.lmn_web.proofs.ClassSteps.{begins_tree, below_is, filed_shorter, filed_dropped, prev_alive, prev_inside, next_alive, even_there, may_other, holder_alive, holder_word}
 use Rattle.lmn_web.proofs.classes.unfile_last.Goals as goal
 
-pub number-high-requires-clause-there : goal.number-high-requires-clause-there
-number-high-requires-clause-there c = c.requires.classes.2.there_c
-
-pub number-arity-requires-clause-there : goal.number-arity-requires-clause-there
-number-arity-requires-clause-there c = c.requires.classes.2.there_c
+pub key-key-requires : goal.key-key-requires
+key-key-requires c = c.requires.classes.2.there_c
 
 pub is_last-requires-clause-there : goal.is_last-requires-clause-there
 is_last-requires-clause-there c =
@@ -40,7 +37,7 @@ lowest-leaf-requires-clause-tree c =
 pub shorten-requires-clause-holder : goal.shorten-requires-clause-holder
 shorten-requires-clause-holder c =
     let f = cells_by c.args.cells.now in let m = cell_id c.args.m in let x = cell_id c.args.c in let p = key_in f x in
-    let kp : ◌≡◌ {A = ℕ × ℕ} (c.number-high.result, c.number-arity.result) p = λ i. (c.number-high.ensures i, c.number-arity.ensures i) in
+    let kp : key_by c.key-key.result ≡ p = λ i. (c.key-key.ensures.class i, c.key-key.ensures.arity i) in
     let r = c.requires.classes in let t = r.1 in let a = r.2 in
     let found = c.find-found.ensures.place t a.classed.tree in
     let hold : cell_id c.find-found.result.holder ≡ (place_in f p m t).holder = found.0 ∙ ap (λ q. (place_in f q m t).holder) kp in
@@ -49,7 +46,7 @@ shorten-requires-clause-holder c =
 pub shorten-requires-clause-word : goal.shorten-requires-clause-word
 shorten-requires-clause-word c =
     let f = cells_by c.args.cells.now in let m = cell_id c.args.m in let x = cell_id c.args.c in let p = key_in f x in
-    let kp : ◌≡◌ {A = ℕ × ℕ} (c.number-high.result, c.number-arity.result) p = λ i. (c.number-high.ensures i, c.number-arity.ensures i) in
+    let kp : key_by c.key-key.result ≡ p = λ i. (c.key-key.ensures.class i, c.key-key.ensures.arity i) in
     let r = c.requires.classes in let t = r.1 in let a = r.2 in
     let found = c.find-found.ensures.place t a.classed.tree in
     let hold : cell_id c.find-found.result.holder ≡ (place_in f p m t).holder = found.0 ∙ ap (λ q. (place_in f q m t).holder) kp in
@@ -63,7 +60,7 @@ shorten-requires-clause-c c =
 pub drop_class-requires-clause-holder : goal.drop_class-requires-clause-holder
 drop_class-requires-clause-holder c =
     let f = cells_by c.args.cells.now in let m = cell_id c.args.m in let x = cell_id c.args.c in let p = key_in f x in
-    let kp : ◌≡◌ {A = ℕ × ℕ} (c.number-high.result, c.number-arity.result) p = λ i. (c.number-high.ensures i, c.number-arity.ensures i) in
+    let kp : key_by c.key-key.result ≡ p = λ i. (c.key-key.ensures.class i, c.key-key.ensures.arity i) in
     let r = c.requires.classes in let t = r.1 in let a = r.2 in
     let found = c.find-found.ensures.place t a.classed.tree in
     let hold : cell_id c.find-found.result.holder ≡ (place_in f p m t).holder = found.0 ∙ ap (λ q. (place_in f q m t).holder) kp in
@@ -72,7 +69,7 @@ drop_class-requires-clause-holder c =
 pub drop_class-requires-clause-word : goal.drop_class-requires-clause-word
 drop_class-requires-clause-word c =
     let f = cells_by c.args.cells.now in let m = cell_id c.args.m in let x = cell_id c.args.c in let p = key_in f x in
-    let kp : ◌≡◌ {A = ℕ × ℕ} (c.number-high.result, c.number-arity.result) p = λ i. (c.number-high.ensures i, c.number-arity.ensures i) in
+    let kp : key_by c.key-key.result ≡ p = λ i. (c.key-key.ensures.class i, c.key-key.ensures.arity i) in
     let r = c.requires.classes in let t = r.1 in let a = r.2 in
     let found = c.find-found.ensures.place t a.classed.tree in
     let hold : cell_id c.find-found.result.holder ≡ (place_in f p m t).holder = found.0 ∙ ap (λ q. (place_in f q m t).holder) kp in
@@ -108,7 +105,7 @@ drop_class-requires-clause-leaf c =
 pub returns-then-is_last : goal.returns-then-is_last
 returns-then-is_last c xs t xs' a i one =
     let f = cells_by c.args.cells.now in let m = cell_id c.args.m in let x = cell_id c.args.c in let p = key_in f x in
-    let kp : ◌≡◌ {A = ℕ × ℕ} (c.number-high.result, c.number-arity.result) p = λ i. (c.number-high.ensures i, c.number-arity.ensures i) in
+    let kp : key_by c.key-key.result ≡ p = λ i. (c.key-key.ensures.class i, c.key-key.ensures.arity i) in
     let found = c.find-found.ensures.place t a.classed.tree in
     let hold : cell_id c.find-found.result.holder ≡ (place_in f p m t).holder = found.0 ∙ ap (λ q. (place_in f q m t).holder) kp in
     let link : link_of c.find-found.result.word ≡ (place_in f p m t).link = found.1 ∙ ap (λ q. (place_in f q m t).link) kp in
@@ -120,7 +117,7 @@ returns-then-is_last c xs t xs' a i one =
 pub returns-else-is_last : goal.returns-else-is_last
 returns-else-is_last c xs t xs' a i one =
     let f = cells_by c.args.cells.now in let m = cell_id c.args.m in let x = cell_id c.args.c in let p = key_in f x in
-    let kp : ◌≡◌ {A = ℕ × ℕ} (c.number-high.result, c.number-arity.result) p = λ i. (c.number-high.ensures i, c.number-arity.ensures i) in
+    let kp : key_by c.key-key.result ≡ p = λ i. (c.key-key.ensures.class i, c.key-key.ensures.arity i) in
     let found = c.find-found.ensures.place t a.classed.tree in
     let hold : cell_id c.find-found.result.holder ≡ (place_in f p m t).holder = found.0 ∙ ap (λ q. (place_in f q m t).holder) kp in
     let link : link_of c.find-found.result.word ≡ (place_in f p m t).link = found.1 ∙ ap (λ q. (place_in f q m t).link) kp in

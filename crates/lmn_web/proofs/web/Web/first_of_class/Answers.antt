@@ -1,4 +1,4 @@
-use Rattle.std.proofs.Common.{◌≡◌, ℕ, List, sym, subst}
+use Rattle.std.proofs.Common.{◌≡◌, ℕ, List, [], sym, subst, arith}
 use Rattle.std.specs.Option.{option_map}
 use Rattle.lmn_base.specs.Lists.{In}
 use Rattle.lmn_store_heap.specs.Lists.{from}
@@ -10,11 +10,20 @@ use Rattle.lmn_web.specs.Webs.{web_by, cells_in, list_in, kind_at, is_classed, w
 use Rattle.lmn_web.specs.Indexes.{cell_kind}
 use Rattle.lmn_web.specs.Classes.{of_class}
 use Rattle.lmn_web.proofs.ListedLemmas.{no_atom_by, from_in, if_some}
-use Rattle.lmn_web.proofs.ClassReads.{class_list}
+use Rattle.lmn_web.proofs.ClassReads.{class_list, none_classed}
 use Rattle.lmn_web.proofs.RelistLemmas.{membrane_there}
 use Rattle.lmn_web.proofs.Filing.{filed_membrane}
 use Rattle.lmn_web.proofs.web.Web.first_of_class.Goals as goal
 use Rattle.lmn_store_heap.proofs.Filters.{in_filter}
+
+pub key_of-requires : goal.key_of-requires
+key_of-requires c = let low = c.if-class-ge-CLASSES.false in omega (arith, low)
+
+pub returns-then-class-ge-CLASSES-clause-list : goal.returns-then-class-ge-CLASSES-clause-list
+returns-then-class-ge-CLASSES-clause-list c =
+    let m = cell_id c.args.home in let high = c.if-class-ge-CLASSES.true in
+    sym (subst (λ (z : List Row). with_class (web_by z) c.args.class c.args.arity (cells_in (web_by z) m Atom) ≡ []) c.self.view_is
+    (none_classed (cells_by c.self.inside.cells) _ c.self.invariant c.small_classes.ensures m c.args.class c.args.arity (omega (arith, high))))
 
 pub first_in-requires-clause-classes : goal.first_in-requires-clause-classes
 first_in-requires-clause-classes c sure = c.self.invariant.classed.classes (cell_id c.args.home) sure
@@ -29,7 +38,7 @@ pub returns-clause-list : goal.returns-clause-list
 returns-clause-list c =
     let f = cells_by c.self.inside.cells in let m = cell_id c.args.home in let W = c.self.invariant in
     let r = option_map cell_id c.first_in.result in let p : ℕ × ℕ = (c.args.class, c.args.arity) in
-    let begins : from r (of_class f p (list_in f m Atom)) ≡ of_class f p (list_in f m Atom) = c.first_in.ensures in
+    let begins : from r (of_class f p (list_in f m Atom)) ≡ of_class f p (list_in f m Atom) = subst (λ q. from r (of_class f q (list_in f m Atom)) ≡ of_class f q (list_in f m Atom)) c.key_of.ensures c.first_in.ensures in
     let list : from r (with_class (web_by c.args.self.now) c.args.class c.args.arity (cells_in (web_by c.args.self.now) m Atom)) ≡ with_class (web_by c.args.self.now) c.args.class c.args.arity (cells_in (web_by c.args.self.now) m Atom) =
     subst (λ (z : List Row). from r (with_class (web_by z) c.args.class c.args.arity (cells_in (web_by z) m Atom)) ≡ with_class (web_by z) c.args.class c.args.arity (cells_in (web_by z) m Atom)) c.self.view_is
     (subst (λ us. from r us ≡ us) (sym (class_list f _ W m c.args.class c.args.arity)) begins) in
@@ -39,7 +48,7 @@ pub returns-clause-there : goal.returns-clause-there
 returns-clause-there c =
     let f = cells_by c.self.inside.cells in let m = cell_id c.args.home in let W = c.self.invariant in
     let r = option_map cell_id c.first_in.result in let p : ℕ × ℕ = (c.args.class, c.args.arity) in
-    let begins : from r (of_class f p (list_in f m Atom)) ≡ of_class f p (list_in f m Atom) = c.first_in.ensures in
+    let begins : from r (of_class f p (list_in f m Atom)) ≡ of_class f p (list_in f m Atom) = subst (λ q. from r (of_class f q (list_in f m Atom)) ≡ of_class f q (list_in f m Atom)) c.key_of.ensures c.first_in.ensures in
     let list : from r (with_class (web_by c.args.self.now) c.args.class c.args.arity (cells_in (web_by c.args.self.now) m Atom)) ≡ with_class (web_by c.args.self.now) c.args.class c.args.arity (cells_in (web_by c.args.self.now) m Atom) =
     subst (λ (z : List Row). from r (with_class (web_by z) c.args.class c.args.arity (cells_in (web_by z) m Atom)) ≡ with_class (web_by z) c.args.class c.args.arity (cells_in (web_by z) m Atom)) c.self.view_is
     (subst (λ us. from r us ≡ us) (sym (class_list f _ W m c.args.class c.args.arity)) begins) in
