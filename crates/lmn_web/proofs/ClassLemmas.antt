@@ -10,8 +10,13 @@ use Rattle.lmn_web_cells.specs.Rows.{Row, items_in}
 use Rattle.lmn_web_cells.specs.Cells.{HeldCell, cell_by, cells_by}
 use Rattle.lmn_web_cells.specs.Runs.{link_in}
 use Rattle.lmn_web_cells.proofs.CellRows.{if_yes}
-use Rattle.lmn_web.specs.Classes.{ClassTree, Bare, Fork, ClassPlace, Hung, lasts, top, IsTree, IsSorted, rest_at, is_odd, is_key, key_in, class_place, place_in, lowest, lowest_below}
+use Rattle.lmn_web.specs.Classes.{AreAtoms, ClassTree, Bare, Fork, ClassPlace, Hung, lasts, top, IsTree, IsSorted, rest_at, is_odd, is_key, key_in, class_place, place_in, lowest, lowest_below}
 use Rattle.lmn_web_cells.specs.Links.{EVEN, ODD, LEADERS}
+use Rattle.lmn_web.specs.declared.kind.CellKind.TheVariants.{Atom}
+use Rattle.lmn_web.specs.Kinds.{kind_by}
+use Rattle.lmn_web.specs.Webs.{number_in}
+use Rattle.lmn_web_cells.specs.Numbers.{KIND}
+use Rattle.lmn_store_heap.proofs.ListLemmas.{in_left, in_right}
 use Rattle.lmn_web.proofs.ClassTrees.{sorted_once}
 
 -- How many cells a tree has
@@ -83,13 +88,14 @@ pub record Left (f : ℕ → Option HeldCell) (p : ℕ × ℕ) (m n holder link 
   pub depth : ℕ
   pub tree : ClassTree
   pub hangs : IsTree f at tree
+  pub atoms : AreAtoms f (lasts tree)
   pub short : size tree ≤ n
   pub digits : rest ≡ rest_at p.0 depth
   pub same : (t : ClassTree) → IsTree f (link_in f m LEADERS) t → class_place f p holder link depth tree ≡ place_in f p m t
 
 -- at the start
-pub left_all : (f : ℕ → Option HeldCell) (p : ℕ × ℕ) (m n : ℕ) (t : ClassTree) → IsTree f (link_in f m LEADERS) t → size t ≤ n → Left f p m n m LEADERS p.0 (link_in f m LEADERS)
-left_all f p m n t q l = record { depth = 0; tree = t; hangs = q; short = l; digits = refl; same = λ u r. ap (place_in f p m) (same_trees f (link_in f m LEADERS) t u q r) }
+pub left_all : (f : ℕ → Option HeldCell) (p : ℕ × ℕ) (m n : ℕ) (t : ClassTree) → IsTree f (link_in f m LEADERS) t → AreAtoms f (lasts t) → size t ≤ n → Left f p m n m LEADERS p.0 (link_in f m LEADERS)
+left_all f p m n t q k l = record { depth = 0; tree = t; hangs = q; atoms = k; short = l; digits = refl; same = λ u r. ap (place_in f p m) (same_trees f (link_in f m LEADERS) t u q r) }
 
 -- the side on which a search goes on
 abbrev pub side_of : ℕ → ℕ
@@ -106,12 +112,12 @@ side_small rest k e = by (is_odd rest) e
 -- a cell that is passed
 pub left_next : (f : ℕ → Option HeldCell) (p : ℕ × ℕ) (m n holder link rest c : ℕ) → Left f p m n holder link rest (Some c) → is_key (key_in f c) p ≡ false
     → Left f p m n c (side_of rest) (rest / 2) (link_in f c (side_of rest)) × (bulk f n (link_in f c (side_of rest)) < bulk f n (Some c))
-left_next f p m n holder link rest c left other_class = by left.tree left.hangs left.short left.same
+left_next f p m n holder link rest c left other_class = by left.tree left.hangs left.atoms left.short left.same
   where
-    by : (t : ClassTree) → IsTree f (Some c) t → size t ≤ n → ((u : ClassTree) → IsTree f (link_in f m LEADERS) u → class_place f p holder link left.depth t ≡ place_in f p m u)
+    by : (t : ClassTree) → IsTree f (Some c) t → AreAtoms f (lasts t) → size t ≤ n → ((u : ClassTree) → IsTree f (link_in f m LEADERS) u → class_place f p holder link left.depth t ≡ place_in f p m u)
         → Left f p m n c (side_of rest) (rest / 2) (link_in f c (side_of rest)) × (bulk f n (link_in f c (side_of rest)) < bulk f n (Some c))
-    by Bare q short same = absurd (let e : ◌≡◌ {A = Option ℕ} (Some c) None = q in cc)
-    by (Fork x a b) q short same = go (is_odd rest) refl
+    by Bare q atoms short same = absurd (let e : ◌≡◌ {A = Option ℕ} (Some c) None = q in cc)
+    by (Fork x a b) q atoms short same = go (is_odd rest) refl
       where
         s : x ≡ c
         s = let e : ◌≡◌ {A = Option ℕ} (Some c) (Some x) = q.0 in cc
@@ -139,11 +145,11 @@ left_next f p m n holder link rest c left other_class = by left.tree left.hangs 
 
         go : (o : Bool) → is_odd rest ≡ o → Left f p m n c (side_of rest) (rest / 2) (link_in f c (side_of rest)) × (bulk f n (link_in f c (side_of rest)) < bulk f n (Some c))
         go true e = subst (λ y. Left f p m n c (if y then ODD else EVEN) (rest / 2) (link_in f c (if y then ODD else EVEN)) × (bulk f n (link_in f c (if y then ODD else EVEN)) < bulk f n (Some c))) (sym e) (
-          record { depth = suc left.depth; tree = b; hangs = odd; short = omega (arith, short); digits = ap (λ z. z / 2) left.digits; same = on true e },
+          record { depth = suc left.depth; tree = b; hangs = odd; atoms = λ l i. atoms l (inr (in_right l (lasts a) (lasts b) i)); short = omega (arith, short); digits = ap (λ z. z / 2) left.digits; same = on true e },
           (let part = bulk_is f n (link_in f c ODD) b odd (omega (arith, short)) in omega (arith, part, whole)),
         )
         go false e = subst (λ y. Left f p m n c (if y then ODD else EVEN) (rest / 2) (link_in f c (if y then ODD else EVEN)) × (bulk f n (link_in f c (if y then ODD else EVEN)) < bulk f n (Some c))) (sym e) (
-          record { depth = suc left.depth; tree = a; hangs = even; short = omega (arith, short); digits = ap (λ z. z / 2) left.digits; same = on false e },
+          record { depth = suc left.depth; tree = a; hangs = even; atoms = λ l i. atoms l (inr (in_left l (lasts a) (lasts b) i)); short = omega (arith, short); digits = ap (λ z. z / 2) left.digits; same = on false e },
           (let part = bulk_is f n (link_in f c EVEN) a even (omega (arith, short)) in omega (arith, part, whole)),
         )
 
@@ -179,6 +185,14 @@ hung_there f c (Fork x a b) q = let e : ◌≡◌ {A = Option ℕ} (Some c) (Som
 -- the next to be looked at is there
 pub left_there : (f : ℕ → Option HeldCell) (p : ℕ × ℕ) (m n holder link rest c : ℕ) → Left f p m n holder link rest (Some c) → IsSome (f c)
 left_there f p m n holder link rest c left = hung_there f c left.tree left.hangs
+
+-- and an atom
+pub left_atom : (f : ℕ → Option HeldCell) (p : ℕ × ℕ) (m n holder link rest c : ℕ) → Left f p m n holder link rest (Some c) → kind_by (number_in f c KIND) ≡ Atom
+left_atom f p m n holder link rest c left = by left.tree left.hangs left.atoms
+  where
+    by : (t : ClassTree) → IsTree f (Some c) t → AreAtoms f (lasts t) → kind_by (number_in f c KIND) ≡ Atom
+    by Bare q atoms = absurd (let e : ◌≡◌ {A = Option ℕ} (Some c) None = q in cc)
+    by (Fork x a b) q atoms = let e : ◌≡◌ {A = Option ℕ} (Some c) (Some x) = q.0 in let z : x ≡ c = cc in atoms c (inl z)
 
 -- Looking for one with none below it
 

@@ -1,5 +1,5 @@
 -- One class of a membrane changes.
-use Rattle.std.proofs.Common.{◌≡◌, ◌==◌, ◌/◌, ◌%◌, ℕ, arith, Bool, true, false, List, [], suc, Option, Some, None, refl, sym, ap, subst, ◌∙◌, inl, inr}
+use Rattle.std.proofs.Common.{◌≡◌, ◌==◌, ◌/◌, ◌%◌, ◌*◌, ℕ, arith, Bool, true, false, List, [], suc, Option, Some, None, refl, sym, ap, subst, ◌∙◌, inl, inr}
 use Rattle.std.proofs.lemmas.Bool.{eq-eqb, eqb-true}
 use Rattle.std.specs.List.{filter}
 use Rattle.lmn_base.specs.Lists.{In}
@@ -22,16 +22,20 @@ key_same p = rw (eq-eqb p.0 p.0 refl) (eq-eqb p.1 p.1 refl)
 pub key_true : (p q : ℕ × ℕ) → is_key p q ≡ true → p ≡ q
 key_true p q e = let w = and_true (p.0 == q.0) (p.1 == q.1) e in λ t. (eqb-true p.0 q.0 w.0 t, eqb-true p.1 q.1 w.1 t)
 
--- one number tells a class
-whole_key : (n k a b : ℕ) → n / 256 ≡ a → n % 256 ≡ b → a ≡ k / 256 → b ≡ k % 256 → n ≡ k
-whole_key n k a b h l x y = omega (arith, h, l, x, y)
+-- the number of an atom tells its class
+whole_key : (n k a b : ℕ) → n / 65536 ≡ a → n / 256 % 256 ≡ b → n % 256 ≡ 0 → a ≡ k / 65536 → b ≡ k / 256 % 256 → k % 256 ≡ 0 → n ≡ k
+whole_key n k a b h l z x y w = omega (arith, h, l, z, x, y, w)
 
 -- so classes are the same where their numbers are
-pub same_keys : (n k : ℕ) (p : ℕ × ℕ) → n / 256 ≡ p.0 → n % 256 ≡ p.1 → (n == k) ≡ is_key p (key_by k)
-same_keys n k p h l =
+pub same_keys : (n k : ℕ) (p : ℕ × ℕ) → n / 65536 ≡ p.0 → n / 256 % 256 ≡ p.1 → n % 256 ≡ 0 → k % 256 ≡ 0 → (n == k) ≡ is_key p (key_by k)
+same_keys n k p h l z w =
     test_same (n == k) (is_key p (key_by k))
-    (λ e. let d = sym (eqb-true n k e) in subst (λ q. is_key q (key_by k) ≡ true) (λ t. ((ap (λ m. m / 256) d ∙ h) t, (ap (λ m. m % 256) d ∙ l) t)) (key_same (key_by k)))
-    (λ e. let w = and_true (p.0 == k / 256) (p.1 == k % 256) e in eq-eqb n k (whole_key n k p.0 p.1 h l (eqb-true p.0 (k / 256) w.0) (eqb-true p.1 (k % 256) w.1)))
+    (λ e. let d = sym (eqb-true n k e) in subst (λ q. is_key q (key_by k) ≡ true) (λ t. ((ap (λ m. m / 65536) d ∙ h) t, (ap (λ m. m / 256 % 256) d ∙ l) t)) (key_same (key_by k)))
+    (λ e. let v = and_true (p.0 == k / 65536) (p.1 == k / 256 % 256) e in eq-eqb n k (whole_key n k p.0 p.1 h l z (eqb-true p.0 (k / 65536) v.0) (eqb-true p.1 (k / 256 % 256) v.1) w))
+
+-- what a cell stands for is no part of its class
+pub key_alone : (n : ℕ) → (n / 256 * 256 / 65536 ≡ n / 65536) × (n / 256 * 256 / 256 % 256 ≡ n / 256 % 256)
+key_alone n = (omega arith, omega arith)
 
 -- an element that nothing may be isn't there
 pub nothing_in : (xs : List ℕ) → xs ≡ [] → (z : ℕ) → In z xs → ⊥

@@ -27,7 +27,11 @@ key_in f a = (number_in f a HIGH, number_in f a ARITY)
 
 -- the class that is told by one number
 abbrev pub key_by : ℕ → ℕ × ℕ
-key_by n = (n / 256, n % 256)
+key_by n = (n / 65536, n / 256 % 256)
+
+-- these are atoms
+abbrev pub AreAtoms : (ℕ → Option HeldCell) → List ℕ → Type 0
+AreAtoms f xs = (x : ℕ) → In x xs → kind_by (number_in f x KIND) ≡ Atom
 
 abbrev pub is_key : ℕ × ℕ → ℕ × ℕ → Bool
 is_key p q = (p.0 == q.0) && (p.1 == q.1)

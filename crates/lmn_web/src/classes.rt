@@ -1,5 +1,5 @@
 //! The atoms of a membrane that files them by class: the high half of a label, and how many ports, as one number.
-ghost use Rattle.std.specs.Prelude.{◌≡◌, ◌⊎◌, ◌<◌, ◌^◌, ◌∷◌, ℕ, List, None, Some, IfSome, IsSome, is_some, if◌then◌else◌, length, true};
+ghost use Rattle.std.specs.Prelude.{◌≡◌, ◌⊎◌, ◌<◌, ◌^◌, ◌%◌, ◌∷◌, ℕ, List, None, Some, IfSome, IsSome, is_some, if◌then◌else◌, length, true};
 ghost use Rattle.std.specs.Option.{option_map};
 ghost use Rattle.lmn_base.specs.Lists.{In};
 ghost use Rattle.lmn_web_cells.specs.Cells.{cells_by, numbers_of, IsLinkWord, link_of};
@@ -10,7 +10,7 @@ ghost use Rattle.lmn_web_cells.specs.Runs.{Line, link_in};
 ghost use Rattle.lmn_web.specs.declared.kind.CellKind.TheVariants.{Atom};
 ghost use Rattle.lmn_web.specs.Kinds.{kind_by};
 ghost use Rattle.lmn_web.specs.Webs.{list_in, number_in};
-ghost use Rattle.lmn_web.specs.Classes.{ClassTree, AreClassed, IsTree, IsSorted, FiledAs, MayEnter, MayFile, MayLeave, begun, closed, dropped, ends_class, files, is_key, is_odd, key_by, key_in, lengthened, lowest_below, place_in, put_between, put_inside, of_class, shortened, taken_over, top, IsInItsClass, IsFiledLast, IsFiledBefore, IsUnfiled};
+ghost use Rattle.lmn_web.specs.Classes.{ClassTree, AreAtoms, AreClassed, IsTree, IsSorted, FiledAs, MayEnter, MayFile, MayLeave, begun, closed, dropped, ends_class, files, is_key, is_odd, key_by, key_in, lasts, lengthened, lowest_below, place_in, put_between, put_inside, of_class, shortened, taken_over, top, IsInItsClass, IsFiledLast, IsFiledBefore, IsUnfiled};
 
 use crate::kind::{CellKind, FILED};
 use lmn_web_cells::cell::Cells;
@@ -18,8 +18,11 @@ use lmn_web_cells::handle::Cell;
 use lmn_web_cells::links::{ATOMS, CLASS_NEXT, CLASS_PREV, EVEN, LEADERS_WORD, NEXT, ODD, PREV};
 use lmn_web_cells::numbers::KIND;
 
-// Below this is how many ports an atom has, which stands below the high half of its label.
-const KEYS: u64 = 256;
+// Below this is what a cell stands for, and how many ports it has.
+const SMALL: u64 = 256;
+
+// Below this are both as one number, which stands below the high half of a label.
+const CLASSES: u64 = 65_536;
 
 // A place in the tree of the last atoms of the classes: what hangs at a link of the membrane, or of the last atom above.
 #[derive(Clone, Copy)]
@@ -45,17 +48,29 @@ pub fn is_filed(cells: &Cells, m: Cell, kind: CellKind) -> bool
 /// The number that tells a class.
 pub fn key_of(high: u64, arity: u8) -> u64
     requires { high < 2 ^ 16 }
-    ensures { key_by result ≡ (high, arity) }
+    ensures class { key_by result ≡ (high, arity) }
+    ensures atom { result % 256 ≡ 0 }
 {
-    high * KEYS + arity as u64
+    high * CLASSES + arity as u64 * SMALL
+}
+
+// That of the class of a cell.
+fn own_key(cells: &Cells, c: Cell) -> u64
+    requires { IsSome (cells_by cells.now (cell_id c)) }
+    ensures class { key_by result ≡ key_in (cells_by cells.now) (cell_id c) }
+    ensures atom { result % 256 ≡ 0 }
+{
+    cells.all_small(c) / SMALL * SMALL
 }
 
 // Whether an atom has a class.
 fn has_class(cells: &Cells, c: Cell, key: u64) -> bool
-    requires { IsSome (cells_by cells.now (cell_id c)) }
+    requires there { IsSome (cells_by cells.now (cell_id c)) }
+    requires atom { kind_by (number_in (cells_by cells.now) (cell_id c) KIND) ≡ Atom }
+    requires key { key % 256 ≡ 0 }
     ensures { result ≡ is_key (key_in (cells_by cells.now) (cell_id c)) (key_by key) }
 {
-    cells.key(c) == key
+    cells.all_small(c) == key
 }
 
 // The link of a last atom on the side to which a number goes.
@@ -69,14 +84,15 @@ fn side(rest: u64) -> usize
 fn find(cells: &Cells, m: Cell, key: u64) -> Place
     requires there { IsSome (cells_by cells.now (cell_id m)) }
     requires membrane { length (numbers_of (cells_by cells.now (cell_id m))) ≡ 8 }
-    requires tree { (t : ClassTree) × IsTree (cells_by cells.now) (link_in (cells_by cells.now) (cell_id m) LEADERS) t × IsSorted (cells_by cells.now) 0 t }
+    requires key { key % 256 ≡ 0 }
+    requires tree { (t : ClassTree) × IsTree (cells_by cells.now) (link_in (cells_by cells.now) (cell_id m) LEADERS) t × IsSorted (cells_by cells.now) 0 t × AreAtoms (cells_by cells.now) (lasts t) }
     ensures word { (result.word < 7) ⊎ (result.word ≡ LEADERS_WORD) }
     ensures place { (t : ClassTree) → IsTree (cells_by cells.now) (link_in (cells_by cells.now) (cell_id m) LEADERS) t →
         let w = place_in (cells_by cells.now) (key_by key) (cell_id m) t in (cell_id result.holder ≡ w.holder) × (link_of result.word ≡ w.link) × (option_map cell_id result.last ≡ top w.tree) }
 {
     let mut holder = m;
     let mut word = LEADERS_WORD;
-    let mut rest = key / KEYS;
+    let mut rest = key / CLASSES;
     let mut at = cells.last_link(m);
     while let Some(c) = at {
         if has_class(cells, c, key) {
@@ -102,10 +118,11 @@ fn find(cells: &Cells, m: Cell, key: u64) -> Place
 fn last_of(cells: &Cells, m: Cell, key: u64) -> Option<Cell>
     requires there { IsSome (cells_by cells.now (cell_id m)) }
     requires membrane { length (numbers_of (cells_by cells.now (cell_id m))) ≡ 8 }
-    requires tree { (t : ClassTree) × IsTree (cells_by cells.now) (link_in (cells_by cells.now) (cell_id m) LEADERS) t × IsSorted (cells_by cells.now) 0 t }
+    requires key { key % 256 ≡ 0 }
+    requires tree { (t : ClassTree) × IsTree (cells_by cells.now) (link_in (cells_by cells.now) (cell_id m) LEADERS) t × IsSorted (cells_by cells.now) 0 t × AreAtoms (cells_by cells.now) (lasts t) }
     ensures { (t : ClassTree) → IsTree (cells_by cells.now) (link_in (cells_by cells.now) (cell_id m) LEADERS) t → option_map cell_id result ≡ top (place_in (cells_by cells.now) (key_by key) (cell_id m) t).tree }
 {
-    let mut rest = key / KEYS;
+    let mut rest = key / CLASSES;
     let mut at = cells.last_link(m);
     while let Some(c) = at {
         if has_class(cells, c, key) {
@@ -174,6 +191,8 @@ fn is_last(cells: &Cells, c: Cell) -> bool
 // The first atom of a class from one of a membrane's list on, if there is one.
 fn seek(cells: &Cells, m: Cell, start: Option<Cell>, key: u64) -> Option<Cell>
     requires line { Line (cells_by cells.now) (cell_id m) ATOMS (list_in (cells_by cells.now) (cell_id m) Atom) }
+    requires key { key % 256 ≡ 0 }
+    requires kinds { AreAtoms (cells_by cells.now) (list_in (cells_by cells.now) (cell_id m) Atom) }
     requires start { IfSome start (λ c. In (cell_id c) (list_in (cells_by cells.now) (cell_id m) Atom)) }
     ensures { let f = cells_by cells.now in let all = list_in f (cell_id m) Atom in
         from (option_map cell_id result) (of_class f (key_by key) all) ≡ of_class f (key_by key) (from (option_map cell_id start) all) }
@@ -194,6 +213,8 @@ pub fn first_in(cells: &Cells, m: Cell, key: u64) -> Option<Cell>
     requires membrane { files (cells_by cells.now) (cell_id m) Atom ≡ true → length (numbers_of (cells_by cells.now (cell_id m))) ≡ 8 }
     requires line { Line (cells_by cells.now) (cell_id m) ATOMS (list_in (cells_by cells.now) (cell_id m) Atom) }
     requires classes { files (cells_by cells.now) (cell_id m) Atom ≡ true → (t : ClassTree) × AreClassed (cells_by cells.now) (cell_id m) (list_in (cells_by cells.now) (cell_id m) Atom) t }
+    requires key { key % 256 ≡ 0 }
+    requires kinds { AreAtoms (cells_by cells.now) (list_in (cells_by cells.now) (cell_id m) Atom) }
     ensures { let f = cells_by cells.now in let own = of_class f (key_by key) (list_in f (cell_id m) Atom) in from (option_map cell_id result) own ≡ own }
 {
     if is_filed(cells, m, CellKind::Atom) {
@@ -212,7 +233,7 @@ pub fn next_in(cells: &Cells, m: Cell, c: Cell) -> Option<Cell>
     requires membrane { files (cells_by cells.now) (cell_id m) Atom ≡ true → length (numbers_of (cells_by cells.now (cell_id m))) ≡ 8 }
     requires line { Line (cells_by cells.now) (cell_id m) ATOMS (list_in (cells_by cells.now) (cell_id m) Atom) }
     requires inside { In (cell_id c) (list_in (cells_by cells.now) (cell_id m) Atom) }
-    requires kinds { (x : ℕ) → In x (list_in (cells_by cells.now) (cell_id m) Atom) → kind_by (number_in (cells_by cells.now) x KIND) ≡ Atom }
+    requires kinds { AreAtoms (cells_by cells.now) (list_in (cells_by cells.now) (cell_id m) Atom) }
     requires classes { files (cells_by cells.now) (cell_id m) Atom ≡ true → (t : ClassTree) × AreClassed (cells_by cells.now) (cell_id m) (list_in (cells_by cells.now) (cell_id m) Atom) t }
     ensures { let f = cells_by cells.now in let own = of_class f (key_in f (cell_id c)) (list_in f (cell_id m) Atom) in from (option_map cell_id result) own ≡ after (cell_id c) own }
 {
@@ -223,7 +244,7 @@ pub fn next_in(cells: &Cells, m: Cell, c: Cell) -> Option<Cell>
             Some(cells.target(c, CLASS_NEXT))
         }
     } else {
-        seek(cells, m, cells.link(c, NEXT), cells.key(c))
+        seek(cells, m, cells.link(c, NEXT), own_key(cells, c))
     }
 }
 
@@ -233,6 +254,7 @@ pub fn place_from(cells: &Cells, m: Cell, filed: bool, start: Cell, c: Cell) -> 
     requires home { IsSome (cells_by cells.now (cell_id m)) }
     requires membrane { files (cells_by cells.now) (cell_id m) Atom ≡ true → length (numbers_of (cells_by cells.now (cell_id m))) ≡ 8 }
     requires there { IsSome (cells_by cells.now (cell_id c)) }
+    requires kinds { AreAtoms (cells_by cells.now) (list_in (cells_by cells.now) (cell_id m) Atom) }
     requires line { filed ≡ true → Line (cells_by cells.now) (cell_id m) ATOMS (list_in (cells_by cells.now) (cell_id m) Atom) }
     requires start { filed ≡ true → In (cell_id start) (list_in (cells_by cells.now) (cell_id m) Atom) }
     requires classes { files (cells_by cells.now) (cell_id m) Atom ≡ true → (t : ClassTree) × AreClassed (cells_by cells.now) (cell_id m) (list_in (cells_by cells.now) (cell_id m) Atom) t }
@@ -242,7 +264,7 @@ pub fn place_from(cells: &Cells, m: Cell, filed: bool, start: Cell, c: Cell) -> 
     if !filed {
         return None;
     }
-    let key = cells.key(c);
+    let key = own_key(cells, c);
     if cells.link(start, PREV).is_none() {
         first_in(cells, m, key)
     } else {
@@ -363,7 +385,7 @@ pub fn file_last(cells: &mut Cells, m: Cell, c: Cell)
     ensures { IsFiledLast (cells_by cells.old) (cells_by cells.new) (cell_id m) (cell_id c) }
 {
     cells.whole();
-    let key = cells.key(c);
+    let key = own_key(cells, c);
     let found = find(cells, m, key);
     match found.last {
         None => begin(cells, found.holder, found.word, c),
@@ -393,7 +415,7 @@ fn unfile_last(cells: &mut Cells, m: Cell, c: Cell, prev: Cell, next: Cell)
     ensures { IsUnfiled (cells_by cells.old) (cells_by cells.new) (cell_id m) (cell_id c) }
 {
     cells.whole();
-    let key = cells.key(c);
+    let key = own_key(cells, c);
     let found = find(cells, m, key);
     if is_last(cells, prev) {
         let leaf = lowest(cells, c);

@@ -140,14 +140,15 @@ class_read rows b all laid there e =
     let ns = numbers_of (cells_by rows b) in
     ap (λ m. m / 65536) e ∙ third_in (get_or ns 0 0) (get_or ns 1 0) (get_or ns 3 0) (small_fits rows b 0 laid there (omega arith)) (small_fits rows b 1 laid there (omega arith))
 
--- the third one and the first
-pub key_read : (rows : List Row) (b all : ℕ) (laid : AreLaid rows) (there : IsSome (cells_by rows b)) → all ≡ in_half (get_or (numbers_of (cells_by rows b)) 0 0) (get_or (numbers_of (cells_by rows b)) 1 0) (get_or (numbers_of (cells_by rows b)) 3 0)
-    → (all / 256 / 256 ≡ get_or (numbers_of (cells_by rows b)) 3 0) × (all / 256 % 256 ≡ get_or (numbers_of (cells_by rows b)) 0 0)
-key_read rows b all laid there e =
-    let ns = numbers_of (cells_by rows b) in (twice all ∙ class_read rows b all laid there e, ap (λ m. m / 256 % 256) e ∙ first_in (get_or ns 0 0) (get_or ns 1 0) (get_or ns 3 0) (small_fits rows b 0 laid there (omega arith)) (small_fits rows b 1 laid there (omega arith)))
-  where
-    twice : (n : ℕ) → n / 256 / 256 ≡ n / 65536
-    twice n = omega arith
+-- all three
+pub small_read : (rows : List Row) (b all : ℕ) (laid : AreLaid rows) (there : IsSome (cells_by rows b)) → all ≡ in_half (get_or (numbers_of (cells_by rows b)) 0 0) (get_or (numbers_of (cells_by rows b)) 1 0) (get_or (numbers_of (cells_by rows b)) 3 0)
+    → (all / 65536 ≡ get_or (numbers_of (cells_by rows b)) 3 0) × (all / 256 % 256 ≡ get_or (numbers_of (cells_by rows b)) 0 0) × (all % 256 ≡ get_or (numbers_of (cells_by rows b)) 1 0)
+small_read rows b all laid there e =
+    let ns = numbers_of (cells_by rows b) in let one = small_fits rows b 0 laid there (omega arith) in let two = small_fits rows b 1 laid there (omega arith) in (
+      class_read rows b all laid there e,
+      ap (λ m. m / 256 % 256) e ∙ first_in (get_or ns 0 0) (get_or ns 1 0) (get_or ns 3 0) one two,
+      ap (λ m. m % 256) e ∙ second_in (get_or ns 0 0) (get_or ns 1 0) (get_or ns 3 0) one two,
+    )
 
 -- the word of one of the two others
 pub number_is : (rows : List Row) (b k : ℕ) (laid : AreLaid rows) (there : IsSome (cells_by rows b)) → 4 ≤ k → k < 6

@@ -11,7 +11,7 @@ use crate::filling::{
     atom_words, fill, fill_membrane,
 };
 use crate::handle::Cell;
-use crate::numbers::{ARITY, HIGH, INDEX};
+use crate::numbers::{ARITY, HIGH, INDEX, KIND};
 use lmn_web_rows::pointers::{is_nowhere, nowhere};
 use lmn_web_rows::store::{NUMBER as INDEX_HALF, Store};
 use std::alloc::{AllocError, Global};
@@ -227,14 +227,15 @@ impl Cells {
         self.rows.set_number(c.at, LINKS + k - 3, n);
     }
 
-    /// The upper half of a label and how many ports, as one number.
+    /// The upper half of a label, how many ports and what the cell stands for, as one number.
     #[inline(always)]
-    pub fn key(&self, c: Cell) -> u64
+    pub fn all_small(&self, c: Cell) -> u64
         requires { IsSome (cells_by self.now (cell_id c)) }
-        ensures class { result / 256 ≡ slice_index_or (numbers_of (cells_by self.now (cell_id c))) HIGH 0 }
-        ensures arity { result % 256 ≡ slice_index_or (numbers_of (cells_by self.now (cell_id c))) ARITY 0 }
+        ensures class { result / 65536 ≡ slice_index_or (numbers_of (cells_by self.now (cell_id c))) HIGH 0 }
+        ensures arity { result / 256 % 256 ≡ slice_index_or (numbers_of (cells_by self.now (cell_id c))) ARITY 0 }
+        ensures kind { result % 256 ≡ slice_index_or (numbers_of (cells_by self.now (cell_id c))) KIND 0 }
     {
-        (self.rows.half(c.at, SMALL) / 256) as u64
+        self.rows.half(c.at, SMALL) as u64
     }
 
     /// A number that only membranes have.

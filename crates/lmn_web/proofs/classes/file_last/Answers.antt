@@ -7,13 +7,16 @@ use Rattle.lmn_web.proofs.ListedLemmas.{some_there}
 use Rattle.lmn_web.proofs.ClassSteps.{last_found, first_alive, first_some, holder_alive, holder_word, filed_begun, filed_longer}
 use Rattle.lmn_web.proofs.classes.file_last.Goals as goal
 
-pub key-key-requires : goal.key-key-requires
-key-key-requires c = c.requires.2.there_c
+pub own_key-key-requires : goal.own_key-key-requires
+own_key-key-requires c = c.requires.2.there_c
+
+pub find-found-requires-clause-tree : goal.find-found-requires-clause-tree
+find-found-requires-clause-tree c = let r = c.requires in let a = r.2 in (r.1, a.classed.tree, a.classed.sorted, λ l i. a.kinds l (a.classed.inside l i))
 
 pub begin-requires-clause-holder : goal.begin-requires-clause-holder
 begin-requires-clause-holder c =
     let f = cells_by c.args.cells.now in let m = cell_id c.args.m in let x = cell_id c.args.c in let p = key_in f x in
-    let kp : key_by c.key-key.result ≡ p = λ i. (c.key-key.ensures.class i, c.key-key.ensures.arity i) in
+    let kp : key_by c.own_key-key.result ≡ p = c.own_key-key.ensures.class in
     let r = c.requires in let t = r.1 in let a = r.2 in
     let found = c.find-found.ensures.place t a.classed.tree in
     let hold : cell_id c.find-found.result.holder ≡ (place_in f p m t).holder = found.0 ∙ ap (λ q. (place_in f q m t).holder) kp in
@@ -22,7 +25,7 @@ begin-requires-clause-holder c =
 pub begin-requires-clause-word : goal.begin-requires-clause-word
 begin-requires-clause-word c =
     let f = cells_by c.args.cells.now in let m = cell_id c.args.m in let x = cell_id c.args.c in let p = key_in f x in
-    let kp : key_by c.key-key.result ≡ p = λ i. (c.key-key.ensures.class i, c.key-key.ensures.arity i) in
+    let kp : key_by c.own_key-key.result ≡ p = c.own_key-key.ensures.class in
     let r = c.requires in let t = r.1 in let a = r.2 in
     let found = c.find-found.ensures.place t a.classed.tree in
     let hold : cell_id c.find-found.result.holder ≡ (place_in f p m t).holder = found.0 ∙ ap (λ q. (place_in f q m t).holder) kp in
@@ -32,7 +35,7 @@ begin-requires-clause-word c =
 pub target-first-requires-clause-there : goal.target-first-requires-clause-there
 target-first-requires-clause-there c =
     let f = cells_by c.args.cells.now in let m = cell_id c.args.m in let x = cell_id c.args.c in let p = key_in f x in
-    let kp : key_by c.key-key.result ≡ p = λ i. (c.key-key.ensures.class i, c.key-key.ensures.arity i) in
+    let kp : key_by c.own_key-key.result ≡ p = c.own_key-key.ensures.class in
     let r = c.requires in let t = r.1 in let a = r.2 in
     let l = cell_id c.in-Some.last in
     let hung : top (place_in f p m t).tree ≡ Some l = ap (λ q. top (place_in f q m t).tree) (sym kp) ∙ sym (c.find-found.ensures.place t a.classed.tree).2 ∙ ap (option_map cell_id) c.in-Some.is in
@@ -41,7 +44,7 @@ target-first-requires-clause-there c =
 pub lengthen-requires-clause-holder : goal.lengthen-requires-clause-holder
 lengthen-requires-clause-holder c =
     let f = cells_by c.args.cells.now in let m = cell_id c.args.m in let x = cell_id c.args.c in let p = key_in f x in
-    let kp : key_by c.key-key.result ≡ p = λ i. (c.key-key.ensures.class i, c.key-key.ensures.arity i) in
+    let kp : key_by c.own_key-key.result ≡ p = c.own_key-key.ensures.class in
     let r = c.requires in let t = r.1 in let a = r.2 in
     let found = c.find-found.ensures.place t a.classed.tree in
     let hold : cell_id c.find-found.result.holder ≡ (place_in f p m t).holder = found.0 ∙ ap (λ q. (place_in f q m t).holder) kp in
@@ -50,7 +53,7 @@ lengthen-requires-clause-holder c =
 pub lengthen-requires-clause-word : goal.lengthen-requires-clause-word
 lengthen-requires-clause-word c =
     let f = cells_by c.args.cells.now in let m = cell_id c.args.m in let x = cell_id c.args.c in let p = key_in f x in
-    let kp : key_by c.key-key.result ≡ p = λ i. (c.key-key.ensures.class i, c.key-key.ensures.arity i) in
+    let kp : key_by c.own_key-key.result ≡ p = c.own_key-key.ensures.class in
     let r = c.requires in let t = r.1 in let a = r.2 in
     let found = c.find-found.ensures.place t a.classed.tree in
     let hold : cell_id c.find-found.result.holder ≡ (place_in f p m t).holder = found.0 ∙ ap (λ q. (place_in f q m t).holder) kp in
@@ -60,7 +63,7 @@ lengthen-requires-clause-word c =
 pub lengthen-requires-clause-last : goal.lengthen-requires-clause-last
 lengthen-requires-clause-last c =
     let f = cells_by c.args.cells.now in let m = cell_id c.args.m in let x = cell_id c.args.c in let p = key_in f x in
-    let kp : key_by c.key-key.result ≡ p = λ i. (c.key-key.ensures.class i, c.key-key.ensures.arity i) in
+    let kp : key_by c.own_key-key.result ≡ p = c.own_key-key.ensures.class in
     let r = c.requires in let t = r.1 in let a = r.2 in
     let l = cell_id c.in-Some.last in
     let hung : top (place_in f p m t).tree ≡ Some l = ap (λ q. top (place_in f q m t).tree) (sym kp) ∙ sym (c.find-found.ensures.place t a.classed.tree).2 ∙ ap (option_map cell_id) c.in-Some.is in
@@ -69,7 +72,7 @@ lengthen-requires-clause-last c =
 pub lengthen-requires-clause-first : goal.lengthen-requires-clause-first
 lengthen-requires-clause-first c =
     let f = cells_by c.args.cells.now in let m = cell_id c.args.m in let x = cell_id c.args.c in let p = key_in f x in
-    let kp : key_by c.key-key.result ≡ p = λ i. (c.key-key.ensures.class i, c.key-key.ensures.arity i) in
+    let kp : key_by c.own_key-key.result ≡ p = c.own_key-key.ensures.class in
     let r = c.requires in let t = r.1 in let a = r.2 in
     let l = cell_id c.in-Some.last in
     let hung : top (place_in f p m t).tree ≡ Some l = ap (λ q. top (place_in f q m t).tree) (sym kp) ∙ sym (c.find-found.ensures.place t a.classed.tree).2 ∙ ap (option_map cell_id) c.in-Some.is in
@@ -78,7 +81,7 @@ lengthen-requires-clause-first c =
 pub returns-in-None : goal.returns-in-None
 returns-in-None c xs t xs' a fresh one =
     let f = cells_by c.args.cells.now in let m = cell_id c.args.m in let x = cell_id c.args.c in let p = key_in f x in
-    let kp : key_by c.key-key.result ≡ p = λ i. (c.key-key.ensures.class i, c.key-key.ensures.arity i) in
+    let kp : key_by c.own_key-key.result ≡ p = c.own_key-key.ensures.class in
     let found = c.find-found.ensures.place t a.classed.tree in
     let hold : cell_id c.find-found.result.holder ≡ (place_in f p m t).holder = found.0 ∙ ap (λ q. (place_in f q m t).holder) kp in
     let link : link_of c.find-found.result.word ≡ (place_in f p m t).link = found.1 ∙ ap (λ q. (place_in f q m t).link) kp in
@@ -88,7 +91,7 @@ returns-in-None c xs t xs' a fresh one =
 pub returns-in-Some : goal.returns-in-Some
 returns-in-Some c xs t xs' a fresh one =
     let f = cells_by c.args.cells.now in let m = cell_id c.args.m in let x = cell_id c.args.c in let p = key_in f x in
-    let kp : key_by c.key-key.result ≡ p = λ i. (c.key-key.ensures.class i, c.key-key.ensures.arity i) in
+    let kp : key_by c.own_key-key.result ≡ p = c.own_key-key.ensures.class in
     let found = c.find-found.ensures.place t a.classed.tree in
     let hold : cell_id c.find-found.result.holder ≡ (place_in f p m t).holder = found.0 ∙ ap (λ q. (place_in f q m t).holder) kp in
     let link : link_of c.find-found.result.word ≡ (place_in f p m t).link = found.1 ∙ ap (λ q. (place_in f q m t).link) kp in
@@ -101,7 +104,7 @@ pub target-first-requires-clause-leads : goal.target-first-requires-clause-leads
 target-first-requires-clause-leads c =
     let r = c.requires in let t = r.1 in let a = r.2 in
     let f = cells_by c.args.cells.now in let m = cell_id c.args.m in let x = cell_id c.args.c in let p = key_in f x in
-    let kp : key_by c.key-key.result ≡ p = λ i. (c.key-key.ensures.class i, c.key-key.ensures.arity i) in
+    let kp : key_by c.own_key-key.result ≡ p = c.own_key-key.ensures.class in
     let l = cell_id c.in-Some.last in
     let hung : top (place_in f p m t).tree ≡ Some l = ap (λ q. top (place_in f q m t).tree) (sym kp) ∙ sym (c.find-found.ensures.place t a.classed.tree).2 ∙ ap (option_map cell_id) c.in-Some.is in
     some_there _ (λ e. first_some f m x r.0 t a p l hung e)

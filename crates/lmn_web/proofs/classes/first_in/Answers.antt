@@ -16,7 +16,7 @@ use Rattle.lmn_web.proofs.classes.first_in.Goals as goal
 
 pub last_of-requires-clause-tree : goal.last_of-requires-clause-tree
 last_of-requires-clause-tree c =
-    let o = c.requires.classes (sym c.is_filed.ensures ∙ c.if-is_filed.true) in (o.0, o.1.tree, o.1.sorted)
+    let o = c.requires.classes (sym c.is_filed.ensures ∙ c.if-is_filed.true) in (o.0, o.1.tree, o.1.sorted, λ l i. c.requires.kinds l (o.1.inside l i))
 
 pub target-requires-clause-there : goal.target-requires-clause-there
 target-requires-clause-there c =

@@ -5,16 +5,19 @@ use Rattle.lmn_web_cells.specs.CellIds.{cell_id}
 use Rattle.lmn_web_cells.specs.Runs.{link_in}
 use Rattle.lmn_web_cells.specs.Links.{LEADERS}
 use Rattle.lmn_web.specs.Classes.{key_by}
-use Rattle.lmn_web.proofs.ClassLemmas.{Left, bulk, tree_small, side_of, left_all, left_next, left_found, left_none, left_there}
+use Rattle.lmn_web.proofs.ClassLemmas.{Left, bulk, tree_small, side_of, left_all, left_next, left_found, left_none, left_there, left_atom}
 use Rattle.lmn_web.proofs.classes.last_of.Goals as goal
 
 pub loop-at-init : goal.loop-at-init
 loop-at-init c =
     let f = cells_by c.args.cells.now in let m = cell_id c.args.m in let n = length c.args.cells.now in let p = key_by c.args.key in let l = c.requires.tree in
-    (m, LEADERS, subst (λ o. Left f p m n m LEADERS (c.args.key / 256) o) c.last_link-at.ensures (left_all f p m n l.0 l.1 (tree_small c.args.cells.now (link_in f m LEADERS) 0 l.0 l.1 l.2)))
+    (m, LEADERS, subst (λ o. Left f p m n m LEADERS (c.args.key / 65536) o) c.last_link-at.ensures (left_all f p m n l.0 l.1 l.3 (tree_small c.args.cells.now (link_in f m LEADERS) 0 l.0 l.1 l.2)))
 
-pub has_class-requires : goal.has_class-requires
-has_class-requires c = left_there (cells_by c.args.cells.now) _ _ _ _ _ _ _ (rw c.in-Some.is at c.loop-at.invariant.2)
+pub has_class-requires-clause-there : goal.has_class-requires-clause-there
+has_class-requires-clause-there c = left_there (cells_by c.args.cells.now) _ _ _ _ _ _ _ (rw c.in-Some.is at c.loop-at.invariant.2)
+
+pub has_class-requires-clause-atom : goal.has_class-requires-clause-atom
+has_class-requires-clause-atom c = left_atom (cells_by c.args.cells.now) _ _ _ _ _ _ _ (rw c.in-Some.is at c.loop-at.invariant.2)
 
 pub link-at-requires-clause-there : goal.link-at-requires-clause-there
 link-at-requires-clause-there c = left_there (cells_by c.args.cells.now) _ _ _ _ _ _ _ (rw c.in-Some.is at c.loop-at.invariant.2)

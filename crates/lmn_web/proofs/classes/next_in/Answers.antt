@@ -31,8 +31,8 @@ target-requires-clause-there c = (each_in _ _ (cell_id c.args.c) c.requires.line
 pub link-requires-clause-there : goal.link-requires-clause-there
 link-requires-clause-there c = (each_in _ _ (cell_id c.args.c) c.requires.line.cells c.requires.inside).0
 
-pub key-requires : goal.key-requires
-key-requires c = (each_in _ _ (cell_id c.args.c) c.requires.line.cells c.requires.inside).0
+pub own_key-requires : goal.own_key-requires
+own_key-requires c = (each_in _ _ (cell_id c.args.c) c.requires.line.cells c.requires.inside).0
 
 pub target-requires-clause-leads : goal.target-requires-clause-leads
 target-requires-clause-leads c =
@@ -63,7 +63,7 @@ pub returns-else-is_filed : goal.returns-else-is_filed
 returns-else-is_filed c =
     let f = cells_by c.args.cells.now in let m = cell_id c.args.m in let x = cell_id c.args.c in let all = list_in f m Atom in
     let on : from (option_map cell_id c.link.result) all ≡ after x all = ap (λ o. from o all) (sym c.link.ensures) ∙ goes_on f m 3 x all c.requires.line c.requires.inside in
-    let key : key_by c.key.result ≡ key_in f x = λ t. (c.key.ensures.class t, c.key.ensures.arity t) in
+    let key : key_by c.own_key.result ≡ key_in f x = c.own_key.ensures.class in
     let p = key_in f x in let r = option_map cell_id c.seek.result in
     let found : from r (of_class f p all) ≡ of_class f p (from (option_map cell_id c.link.result) all) = subst (λ k. from r (of_class f k all) ≡ of_class f k (from (option_map cell_id c.link.result) all)) key c.seek.ensures in
     found ∙ ap (of_class f p) on ∙ sym (filter_after (λ a. is_key (key_in f a) p) x all (key_same p))

@@ -21,5 +21,5 @@ pub returns-then-is_none : goal.returns-then-is_none
 returns-then-is_none c sure =
     let f = cells_by c.args.cells.now in let m = cell_id c.args.m in let all = list_in f m Atom in
     let none : link_in f (cell_id c.args.start) PREV ≡ None = c.link.ensures ∙ none_told cell_id c.link.result (c.is_none.ensures ∙ ap not c.if-is_none.true) in
-    let key : key_by c.key-key.result ≡ key_in f (cell_id c.args.c) = λ i. (c.key-key.ensures.class i, c.key-key.ensures.arity i) in
+    let key : key_by c.own_key-key.result ≡ key_in f (cell_id c.args.c) = c.own_key-key.ensures.class in
     subst (λ p. from (option_map cell_id c.first_in.result) (of_class f p all) ≡ of_class f p all) key c.first_in.ensures ∙ ap (of_class f (key_in f (cell_id c.args.c))) (sym (first_of_list f m 3 (cell_id c.args.start) all (c.requires.line sure) (c.requires.start sure) none))

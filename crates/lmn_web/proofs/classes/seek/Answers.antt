@@ -14,8 +14,14 @@ use Rattle.lmn_web.proofs.classes.seek.Goals as goal
 pub loop-at-init : goal.loop-at-init
 loop-at-init c = seeks_start cell_id _ _ c.args.start c.requires.start
 
-pub has_class-requires : goal.has_class-requires
-has_class-requires c =
+pub has_class-requires-clause-atom : goal.has_class-requires-clause-atom
+has_class-requires-clause-atom c =
+    let f = cells_by c.args.cells.now in let m = cell_id c.args.m in let all = list_in f m Atom in let x = cell_id c.in-Some.c in
+    let s : Seeks (λ a. is_key (key_in f a) (key_by c.args.key)) all (option_map cell_id c.args.start) (Some x) = rw c.in-Some.is at c.loop-at.invariant in
+    c.requires.kinds x (s.there x refl)
+
+pub has_class-requires-clause-there : goal.has_class-requires-clause-there
+has_class-requires-clause-there c =
     let f = cells_by c.args.cells.now in let m = cell_id c.args.m in let all = list_in f m Atom in let x = cell_id c.in-Some.c in
     let s : Seeks (λ a. is_key (key_in f a) (key_by c.args.key)) all (option_map cell_id c.args.start) (Some x) = rw c.in-Some.is at c.loop-at.invariant in
     (each_in _ all x c.requires.line.cells (s.there x refl)).0

@@ -7,8 +7,11 @@ use Rattle.lmn_web.proofs.ClassLemmas.{lowest_there}
 use Rattle.lmn_web.proofs.ClassSteps.{begins_tree, below_is, filed_shorter, filed_dropped, prev_alive, prev_inside, next_alive, even_there, may_other, holder_alive, holder_word}
 use Rattle.lmn_web.proofs.classes.unfile_last.Goals as goal
 
-pub key-key-requires : goal.key-key-requires
-key-key-requires c = c.requires.classes.2.there_c
+pub own_key-key-requires : goal.own_key-key-requires
+own_key-key-requires c = c.requires.classes.2.there_c
+
+pub find-found-requires-clause-tree : goal.find-found-requires-clause-tree
+find-found-requires-clause-tree c = let r = c.requires.classes in let a = r.2 in (r.1, a.classed.tree, a.classed.sorted, λ l i. a.kinds l (a.classed.inside l i))
 
 pub is_last-requires-clause-there : goal.is_last-requires-clause-there
 is_last-requires-clause-there c =
@@ -37,7 +40,7 @@ lowest-leaf-requires-clause-tree c =
 pub shorten-requires-clause-holder : goal.shorten-requires-clause-holder
 shorten-requires-clause-holder c =
     let f = cells_by c.args.cells.now in let m = cell_id c.args.m in let x = cell_id c.args.c in let p = key_in f x in
-    let kp : key_by c.key-key.result ≡ p = λ i. (c.key-key.ensures.class i, c.key-key.ensures.arity i) in
+    let kp : key_by c.own_key-key.result ≡ p = c.own_key-key.ensures.class in
     let r = c.requires.classes in let t = r.1 in let a = r.2 in
     let found = c.find-found.ensures.place t a.classed.tree in
     let hold : cell_id c.find-found.result.holder ≡ (place_in f p m t).holder = found.0 ∙ ap (λ q. (place_in f q m t).holder) kp in
@@ -46,7 +49,7 @@ shorten-requires-clause-holder c =
 pub shorten-requires-clause-word : goal.shorten-requires-clause-word
 shorten-requires-clause-word c =
     let f = cells_by c.args.cells.now in let m = cell_id c.args.m in let x = cell_id c.args.c in let p = key_in f x in
-    let kp : key_by c.key-key.result ≡ p = λ i. (c.key-key.ensures.class i, c.key-key.ensures.arity i) in
+    let kp : key_by c.own_key-key.result ≡ p = c.own_key-key.ensures.class in
     let r = c.requires.classes in let t = r.1 in let a = r.2 in
     let found = c.find-found.ensures.place t a.classed.tree in
     let hold : cell_id c.find-found.result.holder ≡ (place_in f p m t).holder = found.0 ∙ ap (λ q. (place_in f q m t).holder) kp in
@@ -60,7 +63,7 @@ shorten-requires-clause-c c =
 pub drop_class-requires-clause-holder : goal.drop_class-requires-clause-holder
 drop_class-requires-clause-holder c =
     let f = cells_by c.args.cells.now in let m = cell_id c.args.m in let x = cell_id c.args.c in let p = key_in f x in
-    let kp : key_by c.key-key.result ≡ p = λ i. (c.key-key.ensures.class i, c.key-key.ensures.arity i) in
+    let kp : key_by c.own_key-key.result ≡ p = c.own_key-key.ensures.class in
     let r = c.requires.classes in let t = r.1 in let a = r.2 in
     let found = c.find-found.ensures.place t a.classed.tree in
     let hold : cell_id c.find-found.result.holder ≡ (place_in f p m t).holder = found.0 ∙ ap (λ q. (place_in f q m t).holder) kp in
@@ -69,7 +72,7 @@ drop_class-requires-clause-holder c =
 pub drop_class-requires-clause-word : goal.drop_class-requires-clause-word
 drop_class-requires-clause-word c =
     let f = cells_by c.args.cells.now in let m = cell_id c.args.m in let x = cell_id c.args.c in let p = key_in f x in
-    let kp : key_by c.key-key.result ≡ p = λ i. (c.key-key.ensures.class i, c.key-key.ensures.arity i) in
+    let kp : key_by c.own_key-key.result ≡ p = c.own_key-key.ensures.class in
     let r = c.requires.classes in let t = r.1 in let a = r.2 in
     let found = c.find-found.ensures.place t a.classed.tree in
     let hold : cell_id c.find-found.result.holder ≡ (place_in f p m t).holder = found.0 ∙ ap (λ q. (place_in f q m t).holder) kp in
@@ -105,7 +108,7 @@ drop_class-requires-clause-leaf c =
 pub returns-then-is_last : goal.returns-then-is_last
 returns-then-is_last c xs t xs' a i one =
     let f = cells_by c.args.cells.now in let m = cell_id c.args.m in let x = cell_id c.args.c in let p = key_in f x in
-    let kp : key_by c.key-key.result ≡ p = λ i. (c.key-key.ensures.class i, c.key-key.ensures.arity i) in
+    let kp : key_by c.own_key-key.result ≡ p = c.own_key-key.ensures.class in
     let found = c.find-found.ensures.place t a.classed.tree in
     let hold : cell_id c.find-found.result.holder ≡ (place_in f p m t).holder = found.0 ∙ ap (λ q. (place_in f q m t).holder) kp in
     let link : link_of c.find-found.result.word ≡ (place_in f p m t).link = found.1 ∙ ap (λ q. (place_in f q m t).link) kp in
@@ -117,7 +120,7 @@ returns-then-is_last c xs t xs' a i one =
 pub returns-else-is_last : goal.returns-else-is_last
 returns-else-is_last c xs t xs' a i one =
     let f = cells_by c.args.cells.now in let m = cell_id c.args.m in let x = cell_id c.args.c in let p = key_in f x in
-    let kp : key_by c.key-key.result ≡ p = λ i. (c.key-key.ensures.class i, c.key-key.ensures.arity i) in
+    let kp : key_by c.own_key-key.result ≡ p = c.own_key-key.ensures.class in
     let found = c.find-found.ensures.place t a.classed.tree in
     let hold : cell_id c.find-found.result.holder ≡ (place_in f p m t).holder = found.0 ∙ ap (λ q. (place_in f q m t).holder) kp in
     let link : link_of c.find-found.result.word ≡ (place_in f p m t).link = found.1 ∙ ap (λ q. (place_in f q m t).link) kp in

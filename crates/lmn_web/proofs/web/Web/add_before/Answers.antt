@@ -106,6 +106,9 @@ place_from-place-requires-clause-home c =
 pub place_from-place-requires-clause-classes : goal.place_from-place-requires-clause-classes
 place_from-place-requires-clause-classes c sure = c.self.invariant.classed.classes (cell_id c.in-Some.home) sure
 
+pub place_from-place-requires-clause-kinds : goal.place_from-place-requires-clause-kinds
+place_from-place-requires-clause-kinds c x i = c.self.invariant.web.listed.kinds (cell_id c.in-Some.home) x Atom i
+
 pub place_from-place-requires-clause-there : goal.place_from-place-requires-clause-there
 place_from-place-requires-clause-there c =
     let f = cells_by c.self.inside.cells in let x = cell_id c.args.c in

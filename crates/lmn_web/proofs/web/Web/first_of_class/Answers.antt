@@ -28,6 +28,9 @@ returns-then-class-ge-CLASSES-clause-list c =
 pub first_in-requires-clause-classes : goal.first_in-requires-clause-classes
 first_in-requires-clause-classes c sure = c.self.invariant.classed.classes (cell_id c.args.home) sure
 
+pub first_in-requires-clause-kinds : goal.first_in-requires-clause-kinds
+first_in-requires-clause-kinds c x i = c.self.invariant.web.listed.kinds (cell_id c.args.home) x Atom i
+
 pub first_in-requires-clause-line : goal.first_in-requires-clause-line
 first_in-requires-clause-line c =
     let f = cells_by c.self.inside.cells in let m = cell_id c.args.home in let W = c.self.invariant in
@@ -38,7 +41,7 @@ pub returns-clause-list : goal.returns-clause-list
 returns-clause-list c =
     let f = cells_by c.self.inside.cells in let m = cell_id c.args.home in let W = c.self.invariant in
     let r = option_map cell_id c.first_in.result in let p : ℕ × ℕ = (c.args.class, c.args.arity) in
-    let begins : from r (of_class f p (list_in f m Atom)) ≡ of_class f p (list_in f m Atom) = subst (λ q. from r (of_class f q (list_in f m Atom)) ≡ of_class f q (list_in f m Atom)) c.key_of.ensures c.first_in.ensures in
+    let begins : from r (of_class f p (list_in f m Atom)) ≡ of_class f p (list_in f m Atom) = subst (λ q. from r (of_class f q (list_in f m Atom)) ≡ of_class f q (list_in f m Atom)) c.key_of.ensures.class c.first_in.ensures in
     let list : from r (with_class (web_by c.args.self.now) c.args.class c.args.arity (cells_in (web_by c.args.self.now) m Atom)) ≡ with_class (web_by c.args.self.now) c.args.class c.args.arity (cells_in (web_by c.args.self.now) m Atom) =
     subst (λ (z : List Row). from r (with_class (web_by z) c.args.class c.args.arity (cells_in (web_by z) m Atom)) ≡ with_class (web_by z) c.args.class c.args.arity (cells_in (web_by z) m Atom)) c.self.view_is
     (subst (λ us. from r us ≡ us) (sym (class_list f _ W m c.args.class c.args.arity)) begins) in
@@ -48,7 +51,7 @@ pub returns-clause-there : goal.returns-clause-there
 returns-clause-there c =
     let f = cells_by c.self.inside.cells in let m = cell_id c.args.home in let W = c.self.invariant in
     let r = option_map cell_id c.first_in.result in let p : ℕ × ℕ = (c.args.class, c.args.arity) in
-    let begins : from r (of_class f p (list_in f m Atom)) ≡ of_class f p (list_in f m Atom) = subst (λ q. from r (of_class f q (list_in f m Atom)) ≡ of_class f q (list_in f m Atom)) c.key_of.ensures c.first_in.ensures in
+    let begins : from r (of_class f p (list_in f m Atom)) ≡ of_class f p (list_in f m Atom) = subst (λ q. from r (of_class f q (list_in f m Atom)) ≡ of_class f q (list_in f m Atom)) c.key_of.ensures.class c.first_in.ensures in
     let list : from r (with_class (web_by c.args.self.now) c.args.class c.args.arity (cells_in (web_by c.args.self.now) m Atom)) ≡ with_class (web_by c.args.self.now) c.args.class c.args.arity (cells_in (web_by c.args.self.now) m Atom) =
     subst (λ (z : List Row). from r (with_class (web_by z) c.args.class c.args.arity (cells_in (web_by z) m Atom)) ≡ with_class (web_by z) c.args.class c.args.arity (cells_in (web_by z) m Atom)) c.self.view_is
     (subst (λ us. from r us ≡ us) (sym (class_list f _ W m c.args.class c.args.arity)) begins) in
