@@ -1,14 +1,16 @@
 -- What holds of the examples.
-use Rattle.std.proofs.Common.{◌≡◌, ◌≢◌, ◌/◌, ◌^◌, ℕ, zero, suc, [], Option, Some, None, refl, sym, subst, inl, inr, arith}
+use Rattle.std.proofs.Common.{◌≡◌, ◌≢◌, ◌/◌, ◌^◌, ℕ, zero, suc, [], ◌∷◌, slice_index_or, Option, Some, None, refl, sym, subst, inl, inr, arith}
 use Rattle.std.proofs.lemmas.Bool.{cases_eq}
 use Rattle.std.proofs.lemmas.Option.{same_Some}
 use Rattle.lmn_base.specs.Lists.{In}
 use Rattle.lmn_base.proofs.Numbers.{not_equal}
 use Rattle.lmn_store_heap.specs.Lists.{Distinct}
+use Rattle.lmn_web_cells.specs.Cells.{numbers_of}
+use Rattle.lmn_web_cells.specs.Numbers.{INDEX}
 use Rattle.lmn_web.specs.declared.kind.CellKind.{CellKind}
 use Rattle.lmn_web.specs.declared.kind.CellKind.TheVariants.{Atom, Membrane}
 use Rattle.lmn_web.specs.Webs.{WebCell, home_of, web_kind, cells_of, home_at, kind_at, cells_in, label_class, partner_at, unlinked}
-use Rattle.lmn_web.specs.Examples.{two_listed, emptied, SecondIsLast, SecondIsFirst, FirstIsGone, BothAreListed, LostAreNotListed, GoneIsLoose, ListedIsNotLoose, BothAreGone, StillThereIsNotGone, OneHasLabel, NoneHasTwoPorts, BothAreOfOneClass, FarFilesNone, NearFiles, NoneIsOfAnotherClass}
+use Rattle.lmn_web.specs.Examples.{two_listed, emptied, SecondIsLast, SecondIsFirst, FirstIsGone, BothAreListed, LostAreNotListed, GoneIsLoose, ListedIsNotLoose, BothAreGone, StillThereIsNotGone, OneHasLabel, NoneHasTwoPorts, BothAreOfOneClass, FarFilesNone, NearFiles, NoneIsOfAnotherClass, ringed, ThreeAreARing, TwoAreNoRing, SevenIsNew, FiveIsNotNew}
 
 -- a cell that was added last stands at the end
 pub second_is_last : SecondIsLast
@@ -134,3 +136,28 @@ far_files_none l e z = let q = same_Some (2 ^ 64) l e in far (subst (λ n. label
 -- one whose label has the class 0 files them
 pub near_files : NearFiles
 near_files f = f 0 refl refl
+
+-- each of three atoms leads to the next, and the last one to the first
+pub three_are_a_ring : ThreeAreARing
+three_are_a_ring = ((refl, refl, (refl, refl, (refl, refl, tt))), 1 ∷ 2 ∷ [], refl)
+
+-- the third doesn't lead to the second
+pub two_are_no_ring : TwoAreNoRing
+two_are_no_ring r = absurd (omega (arith, same_Some 1 2 r.0.0))
+
+-- none has the index 7
+pub seven_is_new : SevenIsNew
+seven_is_new a there = elim (cases_eq a 1) [
+  | inl e ↦ subst (λ z. slice_index_or (numbers_of (ringed z)) INDEX 0 ≢ 7) (sym e) (λ s. absurd (omega (arith, s)))
+  | inr x ↦ elim (cases_eq a 2) [
+    | inl e ↦ subst (λ z. slice_index_or (numbers_of (ringed z)) INDEX 0 ≢ 7) (sym e) (λ s. absurd (omega (arith, s)))
+    | inr y ↦ elim (cases_eq a 3) [
+      | inl e ↦ subst (λ z. slice_index_or (numbers_of (ringed z)) INDEX 0 ≢ 7) (sym e) (λ s. absurd (omega (arith, s)))
+      | inr z ↦ rw (not_equal a 1 x, not_equal a 2 y, not_equal a 3 z) (λ s. absurd (omega (arith, s)))
+    ]
+  ]
+]
+
+-- the second has the index 5
+pub five_is_not_new : FiveIsNotNew
+five_is_not_new new = new 2 refl refl

@@ -2,6 +2,8 @@
 use Rattle.std.specs.Prelude.{◌≡◌, ◌^◌, ℕ, [], ◌∷◌, Option, Some, None}
 use Rattle.std.specs.Option.{option_map}
 use Rattle.lmn_store_heap.specs.Heap.{alter}
+use Rattle.lmn_web_cells.specs.Cells.{HeldCell, IsNewIndex}
+use Rattle.lmn_web.specs.Classes.{IsRing}
 use Rattle.lmn_web.specs.declared.kind.CellKind.TheVariants.{Atom, Membrane}
 use Rattle.lmn_web.specs.Webs.{WebCell, new_cell, with_list, cells_in, home_at, added_last, added_before, unlinked, with_label, with_class, FilesNone, IsLoose, StandOnce, WithoutAtoms}
 
@@ -75,3 +77,27 @@ NearFiles = FilesNone two_listed 0 → ⊥
 -- with another one there is none
 abbrev pub NoneIsOfAnotherClass : Type 0
 NoneIsOfAnotherClass = with_class two_listed 1 1 (1 ∷ 2 ∷ []) ≡ []
+
+-- an atom with this index, between this one and this one of its class
+abbrev pub in_class : ℕ → ℕ → ℕ → HeldCell
+in_class index prev next = record { links = None ∷ None ∷ None ∷ Some next ∷ Some prev ∷ None ∷ None ∷ None ∷ []; numbers = 0 ∷ 0 ∷ index ∷ 0 ∷ 0 ∷ 0 ∷ []; ports = [] }
+
+-- the atoms 1, 2 and 3, each before the next one and the last one before the first, with the indices 4, 5 and 6
+abbrev pub ringed : ℕ → Option HeldCell
+ringed = alter (alter (alter (λ _. None) 1 (λ _. Some (in_class 4 3 2))) 2 (λ _. Some (in_class 5 1 3))) 3 (λ _. Some (in_class 6 2 1))
+
+-- the third ends a ring of the three
+abbrev pub ThreeAreARing : Type 0
+ThreeAreARing = IsRing ringed 3 (1 ∷ 2 ∷ 3 ∷ [])
+
+-- two of them are none
+abbrev pub TwoAreNoRing : Type 0
+TwoAreNoRing = IsRing ringed 3 (2 ∷ 3 ∷ []) → ⊥
+
+-- none of them has the index 7
+abbrev pub SevenIsNew : Type 0
+SevenIsNew = IsNewIndex ringed 7
+
+-- and one has 5
+abbrev pub FiveIsNotNew : Type 0
+FiveIsNotNew = IsNewIndex ringed 5 → ⊥

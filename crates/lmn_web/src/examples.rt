@@ -1,5 +1,5 @@
 //! What holds of a small web. Each law is the contract of a function with an empty body.
-ghost use Rattle.lmn_web.specs.Examples.{BothAreGone, BothAreListed, BothAreOfOneClass, FarFilesNone, FirstIsGone, GoneIsLoose, ListedIsNotLoose, LostAreNotListed, NearFiles, NoneHasTwoPorts, NoneIsOfAnotherClass, OneHasLabel, SecondIsFirst, SecondIsLast, StillThereIsNotGone};
+ghost use Rattle.lmn_web.specs.Examples.{BothAreGone, BothAreListed, BothAreOfOneClass, FarFilesNone, FirstIsGone, FiveIsNotNew, GoneIsLoose, ListedIsNotLoose, LostAreNotListed, NearFiles, NoneHasTwoPorts, NoneIsOfAnotherClass, OneHasLabel, SecondIsFirst, SecondIsLast, SevenIsNew, StillThereIsNotGone, ThreeAreARing, TwoAreNoRing};
 
 /// A cell that was added last stands at the end.
 #[tactic(auto, using(crate::proofs::ExampleProofs::second_is_last))]
@@ -89,4 +89,28 @@ pub fn far_files_none()
 #[tactic(auto, using(crate::proofs::ExampleProofs::near_files))]
 pub fn near_files()
     ensures { NearFiles }
+{}
+
+/// Three atoms of which each leads to the next and the last one to the first are a ring.
+#[tactic(auto, using(crate::proofs::ExampleProofs::three_are_a_ring))]
+pub fn three_are_a_ring()
+    ensures { ThreeAreARing }
+{}
+
+/// Two of the three aren't.
+#[tactic(auto, using(crate::proofs::ExampleProofs::two_are_no_ring))]
+pub fn two_are_no_ring()
+    ensures { TwoAreNoRing }
+{}
+
+/// An index that none of three atoms has is new.
+#[tactic(auto, using(crate::proofs::ExampleProofs::seven_is_new))]
+pub fn seven_is_new()
+    ensures { SevenIsNew }
+{}
+
+/// One that one of them has isn't.
+#[tactic(auto, using(crate::proofs::ExampleProofs::five_is_not_new))]
+pub fn five_is_not_new()
+    ensures { FiveIsNotNew }
 {}
