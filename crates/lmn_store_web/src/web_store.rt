@@ -415,7 +415,7 @@ impl LinkStore for WebStore {
     #[inline(always)]
     fn place_atom(&mut self, m: Cell) -> Cell {
         self.web.listed();
-        let a = self.web.first_plain(self.waiting, CellKind::Atom).unwrap();
+        let a = self.web.known_first_plain(self.waiting, CellKind::Atom);
         send_first(&mut self.web, self.waiting, m, CellKind::Atom, a);
         a
     }

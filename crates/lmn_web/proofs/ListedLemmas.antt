@@ -228,6 +228,11 @@ run_goes_on h before first last x xs run once i =
 pub begins_list : (f : ℕ → Option HeldCell) (m e : ℕ) (xs : List ℕ) → Line f m e xs → from (link_in f m e) xs ≡ xs
 begins_list f m e xs l = run_begins (node_in f) None (link_in f m e) xs (link_in f m (e + 1)) l.runs
 
+-- a list with a cell begins somewhere
+pub begins_somewhere : (o : Option ℕ) (xs : List ℕ) → from o xs ≡ xs → (xs ≡ [] → ⊥) → IsSome o
+begins_somewhere None xs e some = absurd (some (sym e))
+begins_somewhere (Some x) xs e some = refl
+
 -- what follows a cell of it
 pub goes_on : (f : ℕ → Option HeldCell) (m e x : ℕ) (xs : List ℕ) → Line f m e xs → In x xs → from (link_in f x NEXT) xs ≡ after x xs
 goes_on f m e x xs l i = run_goes_on (node_in f) None (link_in f m e) (link_in f m (e + 1)) x xs l.runs l.once i

@@ -218,6 +218,15 @@ impl Web {
         self.cells.link(home, first_link(kind))
     }
 
+    /// The first cell of a kind in a membrane in which one stands.
+    pub fn known_first(&self, home: Cell, kind: CellKind) -> Cell
+        requires membrane { kind_at (web_by self.now) (cell_id home) ≡ Membrane }
+        requires some { cells_in (web_by self.now) (cell_id home) kind ≢ [] }
+        ensures { from (Some (cell_id result)) (cells_in (web_by self.now) (cell_id home) kind) ≡ cells_in (web_by self.now) (cell_id home) kind }
+    {
+        self.cells.target(home, first_link(kind))
+    }
+
     /// The last cell of a kind in a membrane.
     pub fn last(&self, home: Cell, kind: CellKind) -> Option<Cell>
         requires { IsSome (web_by self.now (cell_id home)) }

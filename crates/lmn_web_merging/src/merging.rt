@@ -202,6 +202,18 @@ impl MergingWeb {
         self.web.first(self_kept(&self.web, home), kind)
     }
 
+    /// That of a membrane that never had a keeper, and in which one stands.
+    pub fn known_first_plain(&self, home: Cell, kind: CellKind) -> Cell
+        requires membrane { kind_at (merged_by self.now) (cell_id home) ≡ Membrane }
+        requires plain { port_mark (merged_by self.now) (cell_id home) ≡ 0 }
+        requires some { cells_in (merged_by self.now) (cell_id home) kind ≢ [] }
+        ensures { from (Some (cell_id result)) (cells_in (merged_by self.now) (cell_id home) kind) ≡ cells_in (merged_by self.now) (cell_id home) kind }
+    {
+        self.web.listed();
+        self.web.paired();
+        self.web.known_first(self_kept(&self.web, home), kind)
+    }
+
     /// The next cell behind this one in its list.
     pub fn next(&self, c: Cell) -> Option<Cell>
         requires { IsSome (home_at (merged_by self.now) (cell_id c)) }

@@ -1,5 +1,4 @@
-use Rattle.std.proofs.Common.{◌≡◌, ◌≢◌, [], ℕ, Option, Some, refl, sym, ap, subst, ◌∙◌, inl}
-use Rattle.std.specs.Option.{option_map}
+use Rattle.std.proofs.Common.{◌≡◌, ◌≢◌, [], ℕ, Some, refl, sym, ap, subst, ◌∙◌, inl}
 use Rattle.lmn_store_heap.specs.Lists.{from}
 use Rattle.lmn_store_heap.specs.Heap.{IsMemInPlace, placed}
 use Rattle.lmn_web_cells.specs.CellIds.{cell_id}
@@ -9,22 +8,26 @@ use Rattle.lmn_web_merging.specs.Keepers.{merged_by}
 use Rattle.lmn_store_web.specs.WebHeaps.{KeptWeb, heap_of}
 use Rattle.lmn_store_web.specs.WebStores.{kept_by}
 use Rattle.lmn_store_web.proofs.SendLemmas.{sent_stored, sent_counts}
-use Rattle.lmn_store_web.proofs.PlaceLemmas.{first_some, placing, placed_heap}
+use Rattle.lmn_store_web.proofs.PlaceLemmas.{placing, placed_heap}
 use Rattle.lmn_store_web.proofs.IndexLemmas.{index_kept, key_by}
 use Rattle.lmn_store_web.proofs.MemLists.{seen_by, seen_placed}
 use Rattle.lmn_store_web.proofs.SendLemmas.{label_same}
 use Rattle.lmn_store_heap.specs.Heap.{Heap}
 use Rattle.lmn_store_web.proofs.web_store.WebStoreLinkStore.place_atom.Goals as goal
 
-pub unwrap-a-requires : goal.unwrap-a-requires
-unwrap-a-requires c =
-    let k = kept_by c.self.inside in
-    first_some cell_id c.first_plain.result (cells_in (merged_by k.web) k.posts.waiting Atom) c.first_plain.ensures.list (subst (λ (z : KeptWeb). (heap_of z).new_atoms ≢ []) (sym c.self.view_is) c.requires.waiting)
+pub known_first_plain-a-requires-clause-membrane : goal.known_first_plain-a-requires-clause-membrane
+known_first_plain-a-requires-clause-membrane c = c.self.invariant.store.stored.waiting
+
+pub known_first_plain-a-requires-clause-plain : goal.known_first_plain-a-requires-clause-plain
+known_first_plain-a-requires-clause-plain c = c.self.invariant.store.stored.plain (kept_by c.self.inside).posts.waiting c.self.invariant.store.stored.waiting (inl refl)
+
+pub known_first_plain-a-requires-clause-some : goal.known_first_plain-a-requires-clause-some
+known_first_plain-a-requires-clause-some c = subst (λ (z : KeptWeb). (heap_of z).new_atoms ≢ []) (sym c.self.view_is) c.requires.waiting
 
 pub send_first-requires-clause-membrane : goal.send_first-requires-clause-membrane
 send_first-requires-clause-membrane c =
-    let k = kept_by c.self.inside in let w = merged_by k.web in let x = cell_id c.unwrap-a.result in let n = cell_id c.args.m in
-    let first : from (Some x) (cells_in w k.posts.waiting Atom) ≡ cells_in w k.posts.waiting Atom = subst (λ o. from (option_map cell_id o) (cells_in w k.posts.waiting Atom) ≡ cells_in w k.posts.waiting Atom) c.unwrap-a.ensures c.first_plain.ensures.list in
+    let k = kept_by c.self.inside in let w = merged_by k.web in let x = cell_id c.known_first_plain-a.result in let n = cell_id c.args.m in
+    let first : from (Some x) (cells_in w k.posts.waiting Atom) ≡ cells_in w k.posts.waiting Atom = c.known_first_plain-a.ensures in
     let q = placing k.posts k.table w c.self.invariant.store.stored c.listed.ensures Atom x n first (subst (λ (z : KeptWeb). IsMemInPlace (heap_of z) n) (sym c.self.view_is) c.requires.mem) in
     q.membrane
 
@@ -35,9 +38,7 @@ pub send_first-requires-clause-line : goal.send_first-requires-clause-line
 send_first-requires-clause-line c = c.self.invariant.store.stored.waiting
 
 pub send_first-requires-clause-first : goal.send_first-requires-clause-first
-send_first-requires-clause-first c =
-    let k = kept_by c.self.inside in let w = merged_by k.web in
-    subst (λ o. from (option_map cell_id o) (cells_in w k.posts.waiting Atom) ≡ cells_in w k.posts.waiting Atom) c.unwrap-a.ensures c.first_plain.ensures.list
+send_first-requires-clause-first c = c.known_first_plain-a.ensures
 
 pub send_first-requires-clause-plain : goal.send_first-requires-clause-plain
 send_first-requires-clause-plain c = c.self.invariant.store.stored.plain (kept_by c.self.inside).posts.waiting c.self.invariant.store.stored.waiting (inl refl)
@@ -47,15 +48,15 @@ send_first-requires-clause-files c = c.self.invariant.store.stored.files (kept_b
 
 pub send_first-requires-clause-apart : goal.send_first-requires-clause-apart
 send_first-requires-clause-apart c =
-    let k = kept_by c.self.inside in let w = merged_by k.web in let x = cell_id c.unwrap-a.result in let n = cell_id c.args.m in
-    let first : from (Some x) (cells_in w k.posts.waiting Atom) ≡ cells_in w k.posts.waiting Atom = subst (λ o. from (option_map cell_id o) (cells_in w k.posts.waiting Atom) ≡ cells_in w k.posts.waiting Atom) c.unwrap-a.ensures c.first_plain.ensures.list in
+    let k = kept_by c.self.inside in let w = merged_by k.web in let x = cell_id c.known_first_plain-a.result in let n = cell_id c.args.m in
+    let first : from (Some x) (cells_in w k.posts.waiting Atom) ≡ cells_in w k.posts.waiting Atom = c.known_first_plain-a.ensures in
     let q = placing k.posts k.table w c.self.invariant.store.stored c.listed.ensures Atom x n first (subst (λ (z : KeptWeb). IsMemInPlace (heap_of z) n) (sym c.self.view_is) c.requires.mem) in
     (q.differ, λ e. q.no_line (sym e))
 
 pub invariant_of-self : goal.invariant_of-self
 invariant_of-self c =
-    let k = kept_by c.self.inside in let w = merged_by k.web in let x = cell_id c.unwrap-a.result in let n = cell_id c.args.m in
-    let first : from (Some x) (cells_in w k.posts.waiting Atom) ≡ cells_in w k.posts.waiting Atom = subst (λ o. from (option_map cell_id o) (cells_in w k.posts.waiting Atom) ≡ cells_in w k.posts.waiting Atom) c.unwrap-a.ensures c.first_plain.ensures.list in
+    let k = kept_by c.self.inside in let w = merged_by k.web in let x = cell_id c.known_first_plain-a.result in let n = cell_id c.args.m in
+    let first : from (Some x) (cells_in w k.posts.waiting Atom) ≡ cells_in w k.posts.waiting Atom = c.known_first_plain-a.ensures in
     let q = placing k.posts k.table w c.self.invariant.store.stored c.listed.ensures Atom x n first (subst (λ (z : KeptWeb). IsMemInPlace (heap_of z) n) (sym c.self.view_is) c.requires.mem) in
     let v = merged_by c.send_first.new.web in
     let s = c.send_first.ensures in
@@ -70,21 +71,15 @@ invariant_of-self c =
 
 pub returns-clause-first : goal.returns-clause-first
 returns-clause-first c =
-    let k = kept_by c.self.inside in let w = merged_by k.web in let x = cell_id c.unwrap-a.result in
-    let first : from (Some x) (cells_in w k.posts.waiting Atom) ≡ cells_in w k.posts.waiting Atom = subst (λ o. from (option_map cell_id o) (cells_in w k.posts.waiting Atom) ≡ cells_in w k.posts.waiting Atom) c.unwrap-a.ensures c.first_plain.ensures.list in
+    let k = kept_by c.self.inside in let w = merged_by k.web in let x = cell_id c.known_first_plain-a.result in
+    let first : from (Some x) (cells_in w k.posts.waiting Atom) ≡ cells_in w k.posts.waiting Atom = c.known_first_plain-a.ensures in
     subst (λ (z : KeptWeb). from (Some x) (heap_of z).new_atoms ≡ (heap_of z).new_atoms) c.self.view_is first
 
 pub returns-clause-placed : goal.returns-clause-placed
 returns-clause-placed c =
-    let k = kept_by c.self.inside in let w = merged_by k.web in let x = cell_id c.unwrap-a.result in let n = cell_id c.args.m in
-    let first : from (Some x) (cells_in w k.posts.waiting Atom) ≡ cells_in w k.posts.waiting Atom = subst (λ o. from (option_map cell_id o) (cells_in w k.posts.waiting Atom) ≡ cells_in w k.posts.waiting Atom) c.unwrap-a.ensures c.first_plain.ensures.list in
+    let k = kept_by c.self.inside in let w = merged_by k.web in let x = cell_id c.known_first_plain-a.result in let n = cell_id c.args.m in
+    let first : from (Some x) (cells_in w k.posts.waiting Atom) ≡ cells_in w k.posts.waiting Atom = c.known_first_plain-a.ensures in
     let q = placing k.posts k.table w c.self.invariant.store.stored c.listed.ensures Atom x n first (subst (λ (z : KeptWeb). IsMemInPlace (heap_of z) n) (sym c.self.view_is) c.requires.mem) in
     let v = merged_by c.send_first.new.web in
     placed_heap k.posts k.table w v n x (c.send_first.ensures) c.self.invariant.store.stored.waiting q.no_line q.no_end q.kind first
     ∙ ap (λ (z : KeptWeb). placed (heap_of z) n x) c.self.view_is
-
-pub first_plain-requires-clause-membrane : goal.first_plain-requires-clause-membrane
-first_plain-requires-clause-membrane c = c.self.invariant.store.stored.waiting
-
-pub first_plain-requires-clause-plain : goal.first_plain-requires-clause-plain
-first_plain-requires-clause-plain c = c.self.invariant.store.stored.plain (kept_by c.self.inside).posts.waiting c.self.invariant.store.stored.waiting (inl refl)
