@@ -31,7 +31,7 @@ pub integer_is_no_name : IntegerIsNoName
 integer_is_no_name e = absurd (cc)
 
 pub values_are_apart : ValuesAreApart
-values_are_apart e = omega (arith, e)
+values_are_apart = (λ e. omega (arith, e), λ e. omega (arith, e))
 
 pub integers_are_together : IntegersAreTogether
 integers_are_together = refl

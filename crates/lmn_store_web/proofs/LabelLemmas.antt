@@ -6,7 +6,7 @@ use Rattle.lmn_base.specs.declared.functor.Label.{Label}
 use Rattle.lmn_base.specs.declared.functor.Label.TheVariants.{Name, Int}
 use Rattle.lmn_base.proofs.Numbers.{lower as below, not_lower as not_below}
 use Rattle.lmn_web.specs.Webs.{label_class}
-use Rattle.lmn_store_web.specs.Labels.{NEGATIVES, HALF, CLASSES, IsNarrow, own_of, class_of, label_number, integer_by, label_by, IsLabelNumber}
+use Rattle.lmn_store_web.specs.Labels.{NEGATIVES, HALF, CLASSES, VALUES, IsNarrow, own_of, class_of, label_number, integer_by, label_by, IsLabelNumber}
 
 as_positive : (k : ℕ) → k < NEGATIVES → integer_by k ≡ Int (pos k)
 as_positive k h = ap (λ b. cond b (Int (pos k)) (Int (negsuc (HALF - 1 - k)))) (below k NEGATIVES h)
@@ -25,9 +25,9 @@ own_fits (Name n) w = omega (arith, w)
 own_fits (Int (pos k)) w = omega (arith, w)
 own_fits (Int (negsuc k)) w = omega arith
 
-last_bits : (by_value : Bool) (k : ℕ) → cond by_value (k % CLASSES) 0 < CLASSES
-last_bits true k = omega arith
-last_bits false k = omega arith
+value_class : (by_value : Bool) (k : ℕ) → cond by_value (k % VALUES) 0 < CLASSES
+value_class true k = omega arith
+value_class false k = omega arith
 
 -- a number with a class and what is a label's own
 halves : (h l : ℕ) → l < HALF → ((h * HALF + l) / HALF ≡ h) × ((h * HALF + l) % HALF ≡ l)
@@ -44,7 +44,7 @@ as_name h l s c = let q = halves h l s in
 -- a label is that of its number
 pub label_back : (by_value : Bool) (label : Label) → IsNarrow label → label_by (label_number by_value label) ≡ label
 label_back by_value (Name n) w = as_name (CLASSES + n % CLASSES) n (omega (arith, w)) (omega arith)
-label_back by_value (Int z) w = as_integer (class_of by_value (Int z)) (own_of (Int z)) (own_fits (Int z) w) (last_bits by_value (own_of (Int z))) ∙ integer_back z w
+label_back by_value (Int z) w = as_integer (class_of by_value (Int z)) (own_of (Int z)) (own_fits (Int z) w) (value_class by_value (own_of (Int z))) ∙ integer_back z w
 
 -- the number of the label of a number is that number
 pub number_back : (by_value : Bool) (k : ℕ) → IsLabelNumber by_value k → label_number by_value (label_by k) ≡ k
@@ -53,7 +53,7 @@ number_back by_value k (label, narrow, is) = ap (label_number by_value) (ap labe
 -- the class of a label is below 2 ^ 16
 class_fits : (by_value : Bool) (label : Label) → class_of by_value label < 2 ^ 16
 class_fits by_value (Name n) = omega arith
-class_fits by_value (Int z) = let l = last_bits by_value (own_of (Int z)) in omega (arith, l)
+class_fits by_value (Int z) = let l = value_class by_value (own_of (Int z)) in omega (arith, l)
 
 pub number_class : (by_value : Bool) (k : ℕ) → IsLabelNumber by_value k → label_class k < 2 ^ 16
 number_class by_value k (label, narrow, is) =

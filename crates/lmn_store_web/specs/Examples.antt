@@ -49,9 +49,9 @@ LabelsAreRead = (label_by (label_number true (Name 7)) ≡ Name 7) × (label_by 
 abbrev pub IntegerIsNoName : Type 0
 IntegerIsNoName = label_by (label_number false (Int (pos 7))) ≡ Name 7 → ⊥
 
--- filed by value, two integers are of two classes
+-- filed by value, two integers are of two classes, two multiples of a power of two too
 abbrev pub ValuesAreApart : Type 0
-ValuesAreApart = label_class (label_number true (Int (pos 7))) ≡ label_class (label_number true (Int (pos 8))) → ⊥
+ValuesAreApart = (label_class (label_number true (Int (pos 7))) ≡ label_class (label_number true (Int (pos 8))) → ⊥) × (label_class (label_number true (Int (pos 65536))) ≡ label_class (label_number true (Int (pos 131072))) → ⊥)
 
 -- filed otherwise, they are of one
 abbrev pub IntegersAreTogether : Type 0

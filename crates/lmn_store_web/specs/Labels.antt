@@ -11,9 +11,13 @@ NEGATIVES = 2 ^ 63
 abbrev pub HALF : ℕ
 HALF = 2 ^ 64
 
--- so many classes names have, and as many integers that are filed by value
+-- so many classes names have; those of integers are before them
 abbrev pub CLASSES : ℕ
 CLASSES = 2 ^ 15
+
+-- so many integers that are filed by value have: a prime, so that multiples of a power of two are of many classes
+abbrev pub VALUES : ℕ
+VALUES = 32749
 
 -- what is a label's own: its name, or its integer by its bits
 abbrev pub own_of : Label → ℕ
@@ -21,10 +25,10 @@ own_of (Name n) = n
 own_of (Int (pos k)) = k
 own_of (Int (negsuc k)) = HALF - 1 - k
 
--- All integers have the class 0, or, where they are filed by value, their last bits, and names have other classes.
+-- All integers have the class 0, or, where they are filed by value, what is left of their bits by a prime, and names have other classes.
 abbrev pub class_of : Bool → Label → ℕ
 class_of by_value (Name n) = CLASSES + n % CLASSES
-class_of by_value (Int z) = if by_value then own_of (Int z) % CLASSES else 0
+class_of by_value (Int z) = if by_value then own_of (Int z) % VALUES else 0
 
 abbrev pub label_number : Bool → Label → ℕ
 label_number by_value label = class_of by_value label * HALF + own_of label

@@ -43,7 +43,7 @@ pub fn integer_is_no_name()
     ensures { IntegerIsNoName }
 {}
 
-/// Integers that are filed by value are of two classes.
+/// Integers that are filed by value are of two classes, multiples of a power of two too.
 #[tactic(auto, using(crate::proofs::ExampleProofs::values_are_apart))]
 pub fn values_are_apart()
     ensures { ValuesAreApart }

@@ -9,11 +9,14 @@ use lmn_base::Label;
 // A half has so many values.
 const HALF: u128 = 0x1_0000_0000_0000_0000;
 
-// So many classes names have, and as many integers that are filed by value.
+// So many classes names have. Those of integers are before them.
 const CLASSES: u64 = 32_768;
 
+// So many have integers that are filed by value: a prime, so that multiples of a power of two are of many classes.
+const VALUES: u64 = 32_749;
+
 /// The number of a label. Its lower half is the name, or the integer by its bits; its upper half is the class: of an integer 0,
-/// or where integers are filed by value the last bits of it, and of a name one of as many others.
+/// or where integers are filed by value what is left of its bits by a prime, and of a name one of as many others.
 pub fn number_of(label: Label, by_value: bool) -> u128
     ensures number { result ≡ label_number by_value label }
     ensures range { IsLabelNumber by_value result }
@@ -26,7 +29,7 @@ pub fn number_of(label: Label, by_value: bool) -> u128
         Label::Int(z) => {
             let bits = bits_of(z);
             if by_value {
-                number_with(bits % CLASSES, bits)
+                number_with(bits % VALUES, bits)
             } else {
                 bits as u128
             }
