@@ -1,5 +1,5 @@
 -- Words of private functions: what stands in the line of what waits, or of what is gone, is freed.
-use Rattle.std.specs.Prelude.{◌≡◌, ◌≢◌, ◌⊎◌, ℕ, List, [], Option, Some, None}
+use Rattle.std.specs.Prelude.{◌≡◌, ◌≢◌, ◌⊎◌, ℕ, ◌+◌, List, [], Option, Some, None}
 use Rattle.std.specs.Option.{option_map, option_and_then}
 use Rattle.lmn_store_heap.specs.Heap.{HeapAtom, HeapMem}
 use Rattle.lmn_store_heap.specs.Lists.{without}
@@ -24,6 +24,13 @@ pub record CanFree (p : Posts) (l : ℕ) (t : List (Option RuleList)) (w : ℕ �
   pub counts : HasCounts (atoms_of p w) (mems_of p t w) n m s
   pub closed : (a i b j : ℕ) → home_at w a ≡ Some l → partner_at w a i ≡ Some (b, j) → home_at w b ≡ Some l
   pub empty : (a : ℕ) (k : CellKind) → home_at w a ≡ Some l → cells_in w a k ≡ []
+
+-- and so many atoms, membranes, rules and spares are counted, of which so many are spares
+pub record MayFree (p : Posts) (l : ℕ) (t : List (Option RuleList)) (w : ℕ → Option WebCell) (count s : ℕ) : Type 0 where
+  pub atoms : ℕ
+  pub mems : ℕ
+  pub can : CanFree p l t w atoms mems s
+  pub sum : atoms + mems + s ≡ count
 
 -- v with the table g is w with the table t, without some of what stood in the line l
 pub record Frees (p : Posts) (l : ℕ) (t : List (Option RuleList)) (w : ℕ → Option WebCell) (g : List (Option RuleList)) (v : ℕ → Option WebCell) : Type 0 where

@@ -1,5 +1,5 @@
 -- Words of the invariant of a store over a web.
-use Rattle.std.specs.Prelude.{◌≡◌, ◌≢◌, ◌↔◌, ◌⊎◌, ℕ, List, [], Option, Some, None, IsSome, map, slice_index_or}
+use Rattle.std.specs.Prelude.{◌≡◌, ◌≢◌, ◌↔◌, ◌⊎◌, ℕ, ◌+◌, List, [], Option, Some, None, IsSome, map, slice_index_or}
 use Rattle.lmn_store_counts.specs.RuleLists.{RuleList}
 use Rattle.lmn_store_counts.specs.Counts.{HasCounts}
 use Rattle.lmn_web_cells.specs.CellIds.{cell_id}
@@ -44,7 +44,10 @@ pub record AlwaysStored (k : KeptWeb) (n m s : ℕ) : Type 0 where
 abbrev pub kept_by : Inside → KeptWeb
 kept_by s = record { web = s.web; table = s.rules.slots; posts = record { root = cell_id s.root; waiting = cell_id s.waiting; gone = cell_id s.gone; by_value = s.by_value } }
 
--- what is kept without the index, and the index
+-- what is kept without the index, with how many atoms and how many membranes and rules there are, and the index
 pub record IsKept (s : Inside) : Type 0 where
-  pub store : AlwaysStored (kept_by s) s.atom_count s.mem_count s.spare_count
+  pub atoms : ℕ
+  pub mems : ℕ
+  pub sum : atoms + mems + s.spare_count ≡ s.count
+  pub store : AlwaysStored (kept_by s) atoms mems s.spare_count
   pub index : IsIndexed (IsNested s.index) (map cell_id s.mems.items) (key_of (merged_by s.web)) (heap_of (kept_by s))

@@ -8,7 +8,7 @@ ghost use Rattle.lmn_web.specs.declared.kind.CellKind.{CellKind as Kind};
 ghost use Rattle.lmn_web.specs.declared.kind.CellKind.TheVariants.{Atom, Membrane};
 ghost use Rattle.lmn_store_web.specs.WebHeaps.{Posts};
 ghost use Rattle.lmn_store_web.specs.WebStores.{HasRules};
-ghost use Rattle.lmn_store_web.specs.Frees.{Drops, CanFree, Frees};
+ghost use Rattle.lmn_store_web.specs.Frees.{Drops, MayFree, Frees};
 
 use crate::table::place_of_rules;
 use lmn_store_counts::Rules;
@@ -18,9 +18,9 @@ use slab::Slab;
 /// The atoms in a line are freed.
 #[inline(always)]
 pub fn free_atoms(web: &mut MergingWeb, line: Cell, count: &mut u64)
-    requires { (p : Posts) × (t : List (Option RuleList)) × (m : ℕ) × (s : ℕ) × CanFree p (cell_id line) t (merged_by web.old) count.old m s }
-    ensures freed { (p : Posts) (t : List (Option RuleList)) (m s : ℕ) → CanFree p (cell_id line) t (merged_by web.old) count.old m s →
-        CanFree p (cell_id line) t (merged_by web.new) count.new m s × Frees p (cell_id line) t (merged_by web.old) t (merged_by web.new) }
+    requires { (p : Posts) × (t : List (Option RuleList)) × (s : ℕ) × MayFree p (cell_id line) t (merged_by web.old) count.old s }
+    ensures freed { (p : Posts) (t : List (Option RuleList)) (s : ℕ) → MayFree p (cell_id line) t (merged_by web.old) count.old s →
+        MayFree p (cell_id line) t (merged_by web.new) count.new s × Frees p (cell_id line) t (merged_by web.old) t (merged_by web.new) }
     ensures none { cells_in (merged_by web.new) (cell_id line) Atom ≡ [] }
 {
     web.listed();
@@ -38,9 +38,9 @@ pub fn free_mems(
     count: &mut u64,
     spare: &mut u64,
 )
-    requires { (p : Posts) × (n : ℕ) × CanFree p (cell_id line) rules.old.slots (merged_by web.old) n count.old spare.old }
-    ensures freed { (p : Posts) (n : ℕ) → CanFree p (cell_id line) rules.old.slots (merged_by web.old) n count.old spare.old →
-        CanFree p (cell_id line) rules.new.slots (merged_by web.new) n count.new spare.new × Frees p (cell_id line) rules.old.slots (merged_by web.old) rules.new.slots (merged_by web.new) }
+    requires { (p : Posts) × MayFree p (cell_id line) rules.old.slots (merged_by web.old) count.old spare.old }
+    ensures freed { (p : Posts) → MayFree p (cell_id line) rules.old.slots (merged_by web.old) count.old spare.old →
+        MayFree p (cell_id line) rules.new.slots (merged_by web.new) count.new spare.new × Frees p (cell_id line) rules.old.slots (merged_by web.old) rules.new.slots (merged_by web.new) }
     ensures none { cells_in (merged_by web.new) (cell_id line) Membrane ≡ [] }
     ensures atoms { cells_in (merged_by web.new) (cell_id line) Atom ≡ cells_in (merged_by web.old) (cell_id line) Atom }
 {
@@ -50,7 +50,9 @@ pub fn free_mems(
         free_cell(web, CellKind::Membrane, m);
         let freed = rules.remove(place);
         *count = *count - 1 - freed.len();
-        *spare -= freed.spare();
+        let spares = freed.spare();
+        *count -= spares;
+        *spare -= spares;
     }
 }
 

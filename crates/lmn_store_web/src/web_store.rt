@@ -43,9 +43,8 @@ pub struct WebStore {
     gone: Cell,
     // Whether an integer is filed in a class of its value, and not in one of all integers.
     by_value: bool,
-    // How many atoms there are, how many membranes and rules in them, and the spares of all membranes.
-    atom_count: u64,
-    mem_count: u64,
+    // How many atoms, membranes, rules in them and spares of membranes there are, and how many of all these are spares.
+    count: u64,
     spare_count: u64,
 }
 
@@ -61,8 +60,7 @@ impl Drop for WebStore {
             waiting: _,
             gone: _,
             by_value: _,
-            atom_count: _,
-            mem_count: _,
+            count: _,
             spare_count: _,
         } = self;
     }
@@ -127,8 +125,7 @@ impl WebStore {
             waiting,
             gone,
             by_value,
-            atom_count: 0,
-            mem_count: 1,
+            count: 1,
             spare_count: 0,
         })
     }
@@ -301,7 +298,7 @@ impl LinkStore for WebStore {
     fn items(&self) -> u64 {
         self.web.listed();
         self.web.paired();
-        self.atom_count + self.mem_count - 1
+        self.count - self.spare_count - 1
     }
 
     fn rule(&self, m: Cell, i: u64) -> u32 {
@@ -334,7 +331,7 @@ impl LinkStore for WebStore {
 
     #[inline(always)]
     fn make_atom(&mut self, alloc: Global, f: Functor) -> Result<Cell, NoMemory> {
-        if self.atom_count + self.mem_count + self.spare_count >= BOUND {
+        if self.count >= BOUND {
             return Err(NoMemory);
         }
         self.web.listed();
@@ -343,13 +340,13 @@ impl LinkStore for WebStore {
             .web
             .make(number_of(f.label, self.by_value), f.arity, CellKind::Atom)?;
         self.web.add_last_plain(self.waiting, CellKind::Atom, a);
-        self.atom_count += 1;
+        self.count += 1;
         Ok(a)
     }
 
     #[inline(always)]
     fn make_like(&mut self, alloc: Global, a: Cell) -> Result<Cell, NoMemory> {
-        if self.atom_count + self.mem_count + self.spare_count >= BOUND {
+        if self.count >= BOUND {
             return Err(NoMemory);
         }
         self.web.listed();
@@ -358,12 +355,12 @@ impl LinkStore for WebStore {
         let arity = self.web.arity(a);
         let copy = self.web.make(label, arity, CellKind::Atom)?;
         self.web.add_last_plain(self.waiting, CellKind::Atom, copy);
-        self.atom_count += 1;
+        self.count += 1;
         Ok(copy)
     }
 
     fn make_mem(&mut self, alloc: Global) -> Result<Cell, NoMemory> {
-        if self.atom_count + self.mem_count + self.spare_count >= BOUND {
+        if self.count >= BOUND {
             return Err(NoMemory);
         }
         self.rules.reserve(1)?;
@@ -380,7 +377,7 @@ impl LinkStore for WebStore {
         self.rules.insert_reserved(Rules::new(alloc));
         hold(&mut self.mems, place, m);
         self.web.add_last(self.waiting, CellKind::Membrane, m);
-        self.mem_count += 1;
+        self.count += 1;
         Ok(m)
     }
 
@@ -390,10 +387,11 @@ impl LinkStore for WebStore {
         if n <= spare {
             return Ok(());
         }
-        if n - spare > BOUND - (self.atom_count + self.mem_count + self.spare_count) {
+        if n - spare > BOUND - self.count {
             return Err(NoMemory);
         }
         table::reserve(&mut self.rules, place, n)?;
+        self.count += n - spare;
         self.spare_count += n - spare;
         Ok(())
     }
@@ -401,12 +399,12 @@ impl LinkStore for WebStore {
     fn discard(&mut self) {
         self.web.listed();
         self.web.paired();
-        free_atoms(&mut self.web, self.waiting, &mut self.atom_count);
+        free_atoms(&mut self.web, self.waiting, &mut self.count);
         free_mems(
             &mut self.web,
             &mut self.rules,
             self.waiting,
-            &mut self.mem_count,
+            &mut self.count,
             &mut self.spare_count,
         );
         self.web.listed();
@@ -461,7 +459,6 @@ impl LinkStore for WebStore {
     fn add_rule(&mut self, m: Cell, k: u32) {
         let place = self.place_of_rules(m);
         table::push(&mut self.rules, place, k);
-        self.mem_count += 1;
         self.spare_count -= 1;
     }
 
@@ -469,7 +466,6 @@ impl LinkStore for WebStore {
         let from = self.place_of_rules(m);
         let to = self.place_of_rules(n);
         let count = table::append(&mut self.rules, from, to);
-        self.mem_count += count;
         self.spare_count -= count;
     }
 
@@ -483,12 +479,12 @@ impl LinkStore for WebStore {
     fn finish(&mut self) {
         self.web.listed();
         self.web.paired();
-        free_atoms(&mut self.web, self.gone, &mut self.atom_count);
+        free_atoms(&mut self.web, self.gone, &mut self.count);
         free_mems(
             &mut self.web,
             &mut self.rules,
             self.gone,
-            &mut self.mem_count,
+            &mut self.count,
             &mut self.spare_count,
         );
         self.web.listed();

@@ -11,85 +11,95 @@ use Rattle.lmn_store_web.proofs.PlaceLemmas.{first_is}
 use Rattle.lmn_store_web.proofs.freeing.free_mems.Goals as goal
 
 pub loop-m-init : goal.loop-m-init
-loop-m-init c = record { freed = λ p n h. (h, frees_none p (cell_id c.args.line) c.args.rules.now.slots (merged_by c.args.web.now)); atoms = refl }
+loop-m-init c = record { freed = λ p h. (h, frees_none p (cell_id c.args.line) c.args.rules.now.slots (merged_by c.args.web.now)); atoms = refl }
 
 pub first_plain-requires-clause-membrane : goal.first_plain-requires-clause-membrane
 first_plain-requires-clause-membrane c =
-    let r = c.requires in let p = r.0 in let n = r.1 in
-    line_kind p (cell_id c.args.line) c.loop-m.rules.slots (merged_by c.loop-m.web) n c.loop-m.count c.loop-m.spare (c.loop-m.invariant.freed p n r.2).0
+    let r = c.requires in let p = r.0 in let may = (c.loop-m.invariant.freed p r.1).0 in
+    line_kind p (cell_id c.args.line) c.loop-m.rules.slots (merged_by c.loop-m.web) may.atoms may.mems c.loop-m.spare may.can
 
 pub place_of_rules-place-requires : goal.place_of_rules-place-requires
 place_of_rules-place-requires c =
-    let r = c.requires in let p = r.0 in let n = r.1 in let l = cell_id c.args.line in let t = c.loop-m.rules.slots in let w = merged_by c.loop-m.web in let k = c.loop-m.count in let s = c.loop-m.spare in let x = cell_id c.in-Some.m in
-    let h = (c.loop-m.invariant.freed p n r.2).0 in
+    let r = c.requires in let p = r.0 in let may = (c.loop-m.invariant.freed p r.1).0 in let n = may.atoms in let l = cell_id c.args.line in let t = c.loop-m.rules.slots in let w = merged_by c.loop-m.web in let k = may.mems in let s = c.loop-m.spare in let x = cell_id c.in-Some.m in
+    let h = may.can in
     let first : from (Some x) (cells_in w l Membrane) ≡ cells_in w l Membrane = c.in-Some.ensures.list in
     mem_rules p l t w n k s h c.listed.ensures x first
 
 pub free_cell-requires-clause-listed : goal.free_cell-requires-clause-listed
 free_cell-requires-clause-listed c =
-    let r = c.requires in let p = r.0 in let n = r.1 in let l = cell_id c.args.line in let t = c.loop-m.rules.slots in let w = merged_by c.loop-m.web in let k = c.loop-m.count in let s = c.loop-m.spare in let x = cell_id c.in-Some.m in
-    let h = (c.loop-m.invariant.freed p n r.2).0 in
+    let r = c.requires in let p = r.0 in let may = (c.loop-m.invariant.freed p r.1).0 in let n = may.atoms in let l = cell_id c.args.line in let t = c.loop-m.rules.slots in let w = merged_by c.loop-m.web in let k = may.mems in let s = c.loop-m.spare in let x = cell_id c.in-Some.m in
+    let h = may.can in
     let first : from (Some x) (cells_in w l Membrane) ≡ cells_in w l Membrane = c.in-Some.ensures.list in
     subst (λ (o : Option ℕ). IsSome o) (sym (mem_home p l t w n k s h c.listed.ensures x first)) refl
 
 pub free_cell-requires-clause-kind : goal.free_cell-requires-clause-kind
 free_cell-requires-clause-kind c =
-    let r = c.requires in let p = r.0 in let n = r.1 in let l = cell_id c.args.line in let t = c.loop-m.rules.slots in let w = merged_by c.loop-m.web in let k = c.loop-m.count in let s = c.loop-m.spare in let x = cell_id c.in-Some.m in
-    let h = (c.loop-m.invariant.freed p n r.2).0 in
+    let r = c.requires in let p = r.0 in let may = (c.loop-m.invariant.freed p r.1).0 in let n = may.atoms in let l = cell_id c.args.line in let t = c.loop-m.rules.slots in let w = merged_by c.loop-m.web in let k = may.mems in let s = c.loop-m.spare in let x = cell_id c.in-Some.m in
+    let h = may.can in
     let first : from (Some x) (cells_in w l Membrane) ≡ cells_in w l Membrane = c.in-Some.ensures.list in
     (first_is w c.listed.ensures l x Membrane first).1
 
 pub free_cell-requires-clause-alone : goal.free_cell-requires-clause-alone
 free_cell-requires-clause-alone c =
-    let r = c.requires in let p = r.0 in let n = r.1 in let l = cell_id c.args.line in let t = c.loop-m.rules.slots in let w = merged_by c.loop-m.web in let k = c.loop-m.count in let s = c.loop-m.spare in let x = cell_id c.in-Some.m in
-    let h = (c.loop-m.invariant.freed p n r.2).0 in
+    let r = c.requires in let p = r.0 in let may = (c.loop-m.invariant.freed p r.1).0 in let n = may.atoms in let l = cell_id c.args.line in let t = c.loop-m.rules.slots in let w = merged_by c.loop-m.web in let k = may.mems in let s = c.loop-m.spare in let x = cell_id c.in-Some.m in
+    let h = may.can in
     let first : from (Some x) (cells_in w l Membrane) ≡ cells_in w l Membrane = c.in-Some.ensures.list in
     mem_alone p l t w n k s h c.listed.ensures x first
 
 pub free_cell-requires-clause-empty : goal.free_cell-requires-clause-empty
 free_cell-requires-clause-empty c =
-    let r = c.requires in let p = r.0 in let n = r.1 in let l = cell_id c.args.line in let t = c.loop-m.rules.slots in let w = merged_by c.loop-m.web in let k = c.loop-m.count in let s = c.loop-m.spare in let x = cell_id c.in-Some.m in
-    let h = (c.loop-m.invariant.freed p n r.2).0 in
+    let r = c.requires in let p = r.0 in let may = (c.loop-m.invariant.freed p r.1).0 in let n = may.atoms in let l = cell_id c.args.line in let t = c.loop-m.rules.slots in let w = merged_by c.loop-m.web in let k = may.mems in let s = c.loop-m.spare in let x = cell_id c.in-Some.m in
+    let h = may.can in
     let first : from (Some x) (cells_in w l Membrane) ≡ cells_in w l Membrane = c.in-Some.ensures.list in
     mem_empty p l t w n k s h c.listed.ensures x first
 
 pub remove-freed-requires : goal.remove-freed-requires
 remove-freed-requires c =
-    let r = c.requires in let p = r.0 in let n = r.1 in let l = cell_id c.args.line in let t = c.loop-m.rules.slots in let w = merged_by c.loop-m.web in let k = c.loop-m.count in let s = c.loop-m.spare in let x = cell_id c.in-Some.m in
-    let h = (c.loop-m.invariant.freed p n r.2).0 in
+    let r = c.requires in let p = r.0 in let may = (c.loop-m.invariant.freed p r.1).0 in let n = may.atoms in let l = cell_id c.args.line in let t = c.loop-m.rules.slots in let w = merged_by c.loop-m.web in let k = may.mems in let s = c.loop-m.spare in let x = cell_id c.in-Some.m in
+    let h = may.can in
     let first : from (Some x) (cells_in w l Membrane) ≡ cells_in w l Membrane = c.in-Some.ensures.list in
     key_there p l t w n k s h c.listed.ensures x first c.place_of_rules-place.result c.place_of_rules-place.ensures
 
 pub overflow_sub-count : goal.overflow_sub-count
 overflow_sub-count c =
-    let r = c.requires in let p = r.0 in let n = r.1 in let l = cell_id c.args.line in let t = c.loop-m.rules.slots in let w = merged_by c.loop-m.web in let k = c.loop-m.count in let s = c.loop-m.spare in let x = cell_id c.in-Some.m in
-    let h = (c.loop-m.invariant.freed p n r.2).0 in
+    let r = c.requires in let p = r.0 in let may = (c.loop-m.invariant.freed p r.1).0 in let n = may.atoms in let l = cell_id c.args.line in let t = c.loop-m.rules.slots in let w = merged_by c.loop-m.web in let k = may.mems in let s = c.loop-m.spare in let x = cell_id c.in-Some.m in
+    let h = may.can in
     let first : from (Some x) (cells_in w l Membrane) ≡ cells_in w l Membrane = c.in-Some.ensures.list in
     let b = mem_counted p l t w n k s h c.listed.ensures x first c.place_of_rules-place.result c.place_of_rules-place.ensures c.remove-freed.result c.remove-freed.ensures.value in
-    omega (arith, b)
+    let sum = may.sum in omega (arith, b, sum)
 
 pub overflow_sub-count-in-Some : goal.overflow_sub-count-in-Some
 overflow_sub-count-in-Some c =
-    let r = c.requires in let p = r.0 in let n = r.1 in let l = cell_id c.args.line in let t = c.loop-m.rules.slots in let w = merged_by c.loop-m.web in let k = c.loop-m.count in let s = c.loop-m.spare in let x = cell_id c.in-Some.m in
-    let h = (c.loop-m.invariant.freed p n r.2).0 in
+    let r = c.requires in let p = r.0 in let may = (c.loop-m.invariant.freed p r.1).0 in let n = may.atoms in let l = cell_id c.args.line in let t = c.loop-m.rules.slots in let w = merged_by c.loop-m.web in let k = may.mems in let s = c.loop-m.spare in let x = cell_id c.in-Some.m in
+    let h = may.can in
     let first : from (Some x) (cells_in w l Membrane) ≡ cells_in w l Membrane = c.in-Some.ensures.list in
     let b = mem_counted p l t w n k s h c.listed.ensures x first c.place_of_rules-place.result c.place_of_rules-place.ensures c.remove-freed.result c.remove-freed.ensures.value in
-    let e = c.len.ensures in
-    omega (arith, b, e)
+    let e = c.len.ensures in let sum = may.sum in
+    omega (arith, b, e, sum)
+
+pub overflow_sub-count-in-Some-2 : goal.overflow_sub-count-in-Some-2
+overflow_sub-count-in-Some-2 c =
+    let r = c.requires in let p = r.0 in let may = (c.loop-m.invariant.freed p r.1).0 in let n = may.atoms in let l = cell_id c.args.line in let t = c.loop-m.rules.slots in let w = merged_by c.loop-m.web in let k = may.mems in let s = c.loop-m.spare in let x = cell_id c.in-Some.m in
+    let h = may.can in
+    let first : from (Some x) (cells_in w l Membrane) ≡ cells_in w l Membrane = c.in-Some.ensures.list in
+    let b = mem_counted p l t w n k s h c.listed.ensures x first c.place_of_rules-place.result c.place_of_rules-place.ensures c.remove-freed.result c.remove-freed.ensures.value in
+    let a = spare_counted p l t w n k s h c.listed.ensures x first c.place_of_rules-place.result c.place_of_rules-place.ensures c.remove-freed.result c.remove-freed.ensures.value in
+    let len = c.len.ensures in let spares = c.spare-spares.ensures in let sum = may.sum in
+    omega (arith, b, a, len, spares, sum)
 
 pub overflow_sub-spare : goal.overflow_sub-spare
 overflow_sub-spare c =
-    let r = c.requires in let p = r.0 in let n = r.1 in let l = cell_id c.args.line in let t = c.loop-m.rules.slots in let w = merged_by c.loop-m.web in let k = c.loop-m.count in let s = c.loop-m.spare in let x = cell_id c.in-Some.m in
-    let h = (c.loop-m.invariant.freed p n r.2).0 in
+    let r = c.requires in let p = r.0 in let may = (c.loop-m.invariant.freed p r.1).0 in let n = may.atoms in let l = cell_id c.args.line in let t = c.loop-m.rules.slots in let w = merged_by c.loop-m.web in let k = may.mems in let s = c.loop-m.spare in let x = cell_id c.in-Some.m in
+    let h = may.can in
     let first : from (Some x) (cells_in w l Membrane) ≡ cells_in w l Membrane = c.in-Some.ensures.list in
     let b = spare_counted p l t w n k s h c.listed.ensures x first c.place_of_rules-place.result c.place_of_rules-place.ensures c.remove-freed.result c.remove-freed.ensures.value in
-    let e = c.spare.ensures in
+    let e = c.spare-spares.ensures in
     omega (arith, b, e)
 
 pub loop-m-smaller : goal.loop-m-smaller
 loop-m-smaller c =
-    let r = c.requires in let p = r.0 in let n = r.1 in let l = cell_id c.args.line in let t = c.loop-m.rules.slots in let w = merged_by c.loop-m.web in let k = c.loop-m.count in let s = c.loop-m.spare in let x = cell_id c.in-Some.m in
-    let h = (c.loop-m.invariant.freed p n r.2).0 in
+    let r = c.requires in let p = r.0 in let may = (c.loop-m.invariant.freed p r.1).0 in let n = may.atoms in let l = cell_id c.args.line in let t = c.loop-m.rules.slots in let w = merged_by c.loop-m.web in let k = may.mems in let s = c.loop-m.spare in let x = cell_id c.in-Some.m in
+    let h = may.can in
     let first : from (Some x) (cells_in w l Membrane) ≡ cells_in w l Membrane = c.in-Some.ensures.list in
     let d = c.free_cell.ensures.drops l (mem_home p l t w n k s h c.listed.ensures x first) in
     mem_fewer p l t w n k s h c.listed.ensures x first c.place_of_rules-place.result c.place_of_rules-place.ensures c.remove-freed.result c.remove-freed.ensures.value
@@ -99,17 +109,19 @@ pub loop-m-preserved : goal.loop-m-preserved
 loop-m-preserved c =
     let v = merged_by c.free_cell.new.web in let g = c.remove-freed.new.self.slots in
     record {
-      freed = λ p n at.
-          let l = cell_id c.args.line in let t = c.loop-m.rules.slots in let w = merged_by c.loop-m.web in let k = c.loop-m.count in let s = c.loop-m.spare in let x = cell_id c.in-Some.m in
-          let i = c.loop-m.invariant.freed p n at in
+      freed = λ p at.
+          let i = c.loop-m.invariant.freed p at in let n = i.0.atoms in let l = cell_id c.args.line in let t = c.loop-m.rules.slots in let w = merged_by c.loop-m.web in let k = i.0.mems in let s = c.loop-m.spare in let x = cell_id c.in-Some.m in
           let first : from (Some x) (cells_in w l Membrane) ≡ cells_in w l Membrane = c.in-Some.ensures.list in
-          let d = c.free_cell.ensures.drops l (mem_home p l t w n k s i.0 c.listed.ensures x first) in
-          let q = mem_step p l t w n k s i.0 c.listed.ensures x first c.place_of_rules-place.result c.place_of_rules-place.ensures c.remove-freed.result c.remove-freed.ensures.value v g c.remove-freed.ensures.slots d c.free_cell.ensures.strange
-          _ _ (ap (λ z. k - 1 - z) c.len.ensures) (ap (λ z. s - z) c.spare.ensures) in
-          (q.0, frees_both p l c.args.rules.now.slots (merged_by c.args.web.now) t w g v i.1 q.1);
+          let d = c.free_cell.ensures.drops l (mem_home p l t w n k s i.0.can c.listed.ensures x first) in
+          let q = mem_step p l t w n k s i.0.can c.listed.ensures x first c.place_of_rules-place.result c.place_of_rules-place.ensures c.remove-freed.result c.remove-freed.ensures.value v g c.remove-freed.ensures.slots d c.free_cell.ensures.strange
+          _ _ (ap (λ z. k - 1 - z) c.len.ensures) (ap (λ z. s - z) c.spare-spares.ensures) in
+          let b = mem_counted p l t w n k s i.0.can c.listed.ensures x first c.place_of_rules-place.result c.place_of_rules-place.ensures c.remove-freed.result c.remove-freed.ensures.value in
+          let a = spare_counted p l t w n k s i.0.can c.listed.ensures x first c.place_of_rules-place.result c.place_of_rules-place.ensures c.remove-freed.result c.remove-freed.ensures.value in
+          let len = c.len.ensures in let spares = c.spare-spares.ensures in let sum = i.0.sum in
+          (record { atoms = n; mems = k - 1 - c.len.result; can = q.0; sum = omega (arith, b, a, len, spares, sum) }, frees_both p l c.args.rules.now.slots (merged_by c.args.web.now) t w g v i.1 q.1);
       atoms =
-          (let r = c.requires in let p = r.0 in let n = r.1 in let l = cell_id c.args.line in let t = c.loop-m.rules.slots in let w = merged_by c.loop-m.web in let k = c.loop-m.count in let s = c.loop-m.spare in let x = cell_id c.in-Some.m in
-          let h = (c.loop-m.invariant.freed p n r.2).0 in
+          (let r = c.requires in let p = r.0 in let may = (c.loop-m.invariant.freed p r.1).0 in let n = may.atoms in let l = cell_id c.args.line in let t = c.loop-m.rules.slots in let w = merged_by c.loop-m.web in let k = may.mems in let s = c.loop-m.spare in let x = cell_id c.in-Some.m in
+          let h = may.can in
           let first : from (Some x) (cells_in w l Membrane) ≡ cells_in w l Membrane = c.in-Some.ensures.list in
           let d = c.free_cell.ensures.drops l (mem_home p l t w n k s h c.listed.ensures x first) in
           atoms_left p l t w n k s h c.listed.ensures x first c.place_of_rules-place.result c.place_of_rules-place.ensures c.remove-freed.result c.remove-freed.ensures.value v g c.remove-freed.ensures.slots d c.free_cell.ensures.strange ∙ c.loop-m.invariant.atoms);
@@ -128,5 +140,5 @@ returns-clause-atoms c = c.loop-m.invariant.atoms
 
 pub first_plain-requires-clause-plain : goal.first_plain-requires-clause-plain
 first_plain-requires-clause-plain c =
-    let r = c.requires in let p = r.0 in let n = r.1 in
-    line_plain p (cell_id c.args.line) c.loop-m.rules.slots (merged_by c.loop-m.web) n c.loop-m.count c.loop-m.spare (c.loop-m.invariant.freed p n r.2).0
+    let r = c.requires in let p = r.0 in let may = (c.loop-m.invariant.freed p r.1).0 in
+    line_plain p (cell_id c.args.line) c.loop-m.rules.slots (merged_by c.loop-m.web) may.atoms may.mems c.loop-m.spare may.can

@@ -41,6 +41,9 @@ invariant_of-result c =
     let none = c.new-mems.ensures.items in
     let cells : map cell_id c.push_reserved.new.self.items ≡ r ∷ [] = ap (λ (xs : List Cell). map cell_id xs) (c.push_reserved.ensures.items ∙ ap (λ (xs : List Cell). xs ++ c.in_ok-root.root ∷ []) (c.reserve.ensures.items ∙ none)) in
     record {
+      atoms = 0;
+      mems = 1;
+      sum = refl;
       store = record { stored = all.0; counts = all.1 };
       index = subst (λ xs. IsIndexed (IsNested c.set_awake.new.self) xs (key_of (merged_by c.make-3.new.self)) (heap_by (record { root = r; waiting = cell_id c.in_ok-waiting.waiting; gone = cell_id c.in_ok-gone.gone; by_value = c.args.by_value }) c.insert.new.self.slots (merged_by c.make-3.new.self))) (sym cells)
           (index_by (IsNested c.set_awake.new.self) (r ∷ []) (key_of (merged_by c.make-3.new.self)) (key_of (merged_by c.make-3.new.self)) (alone r) (heap_by (record { root = r; waiting = cell_id c.in_ok-waiting.waiting; gone = cell_id c.in_ok-gone.gone; by_value = c.args.by_value }) c.insert.new.self.slots (merged_by c.make-3.new.self)) (λ m. refl) all.2 (index_alone (IsNested c.set_awake.new.self) (key_of (merged_by c.make-3.new.self)) r false (label ∙ key) (subst (λ z. IsNested c.set_awake.new.self (with_awake z false (with_key 0 empty_nest))) key now)));

@@ -1,4 +1,4 @@
-use Rattle.std.proofs.Common.{subst, sym, ap, ◌≤◌, ◌∙◌, ◌∷◌, []}
+use Rattle.std.proofs.Common.{subst, sym, ap, ◌≤◌, ◌+◌, ◌∙◌, ◌∷◌, [], arith}
 use Rattle.lmn_store_heap.specs.Heap.{IsMem, spare_of, rule_added}
 use Rattle.lmn_web_cells.specs.CellIds.{cell_id}
 use Rattle.lmn_web_merging.specs.Keepers.{merged_by}
@@ -34,7 +34,12 @@ invariant_of-self c =
     let s = subst (λ (z : KeptWeb). IsMem (heap_of z) m) (sym c.self.view_is) c.requires.mem in
     let h = subst (λ (z : KeptWeb). HasRules z.table (merged_by z.web) m c.place_of_rules-place.result) (sym c.self.view_is) c.place_of_rules-place.ensures in
     let t = more_heap k.posts k.table (merged_by k.web) c.self.invariant.store.stored m c.place_of_rules-place.result s h _ _ _ c.self.invariant.store.counts _ (c.args.k ∷ []) c.push.ensures in
+    let less = fewer k.posts k.table (merged_by k.web) c.self.invariant.store.stored m c.place_of_rules-place.result s h _ _ _ c.self.invariant.store.counts 1 (subst (λ (z : KeptWeb). 1 ≤ spare_of (heap_of z) m) (sym c.self.view_is) c.requires.spare) in
+    let sum = c.self.invariant.sum in
     record {
+      atoms = c.self.invariant.atoms;
+      mems = c.self.invariant.mems + 1;
+      sum = omega (arith, less, sum);
       store = record {
         stored = more_stored k.posts k.table (merged_by k.web) c.self.invariant.store.stored m c.place_of_rules-place.result s h _ _ _ c.self.invariant.store.counts _ (c.args.k ∷ []) c.push.ensures;
         counts = more_counts k.posts k.table (merged_by k.web) c.self.invariant.store.stored m c.place_of_rules-place.result s h _ _ _ c.self.invariant.store.counts _ (c.args.k ∷ []) c.push.ensures

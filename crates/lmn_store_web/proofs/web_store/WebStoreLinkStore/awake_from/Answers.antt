@@ -53,6 +53,9 @@ pub invariant_of-self : goal.invariant_of-self
 invariant_of-self c =
     let x = c.self.invariant.index in
     record {
+      atoms = c.self.invariant.atoms;
+      mems = c.self.invariant.mems;
+      sum = c.self.invariant.sum;
       store = c.self.invariant.store;
       index = record { nest = x.nest; nested = c.awake_from.ensures.keeps x.nest x.nested; agrees = x.agrees; cells = x.cells; few = x.few };
     }

@@ -58,26 +58,6 @@ append-count-requires-clause-spare c x e =
     (subst (λ (z : KeptWeb). length (rules_in (heap_of z) a) ≤ spare_of (heap_of z) b) (sym c.self.view_is) c.requires.spare) in
     row_room k.posts k.table v inv b c.place_of_rules-to.result u g (length ks) room x e
 
-pub overflow_add-self : goal.overflow_add-self
-overflow_add-self c =
-    let a = cell_id c.args.m in
-    let b = cell_id c.args.n in
-    let k = kept_by c.self.inside in
-    let v = merged_by k.web in
-    let inv = c.self.invariant.store.stored in
-    let s = subst (λ (z : KeptWeb). IsMem (heap_of z) a) (sym c.self.view_is) c.requires.m in
-    let u = subst (λ (z : KeptWeb). IsMem (heap_of z) b) (sym c.self.view_is) c.requires.n in
-    let h = subst (λ (z : KeptWeb). HasRules z.table (merged_by z.web) a c.place_of_rules-from.result) (sym c.self.view_is) c.place_of_rules-from.ensures in
-    let g = subst (λ (z : KeptWeb). HasRules z.table (merged_by z.web) b c.place_of_rules-to.result) (sym c.self.view_is) c.place_of_rules-to.ensures in
-    let ks = rules_by (rows k.table c.place_of_rules-from.result) in
-    let is = rules_are k.posts k.table v inv a c.place_of_rules-from.result s h.0 in
-    let room : length ks ≤ spare_of (heap_of k) b = subst (λ (xs : List ℕ). length xs ≤ spare_of (heap_of k) b) is
-    (subst (λ (z : KeptWeb). length (rules_in (heap_of z) a) ≤ spare_of (heap_of z) b) (sym c.self.view_is) c.requires.spare) in
-    let less = fewer k.posts k.table v inv b c.place_of_rules-to.result u g _ _ _ c.self.invariant.store.counts (length ks) room in
-    let count = c.append-count.ensures.count in
-    let bound = c.self.invariant.store.counts.bound in
-    omega (arith, less, count, bound)
-
 pub overflow_sub-self : goal.overflow_sub-self
 overflow_sub-self c =
     let a = cell_id c.args.m in
@@ -114,10 +94,15 @@ invariant_of-self c =
     (subst (λ (z : KeptWeb). length (rules_in (heap_of z) a) ≤ spare_of (heap_of z) b) (sym c.self.view_is) c.requires.spare) in
     let t1 = c.append-count.new.table.slots in
     let e = more_heap k.posts k.table v inv b c.place_of_rules-to.result u g _ _ _ c.self.invariant.store.counts t1 ks c.append-count.ensures.rows in
+    let less = fewer k.posts k.table v inv b c.place_of_rules-to.result u g _ _ _ c.self.invariant.store.counts (length ks) room in
+    let count = c.append-count.ensures.count in let sum = c.self.invariant.sum in
     record {
+      atoms = c.self.invariant.atoms;
+      mems = c.self.invariant.mems + c.append-count.result;
+      sum = omega (arith, less, count, sum);
       store = record {
         stored = more_stored k.posts k.table v inv b c.place_of_rules-to.result u g _ _ _ c.self.invariant.store.counts t1 ks c.append-count.ensures.rows;
-        counts = subst (λ z. HasCounts (atoms_of k.posts v) (mems_of k.posts t1 v) c.self.inside.atom_count (c.self.inside.mem_count + z) (c.self.inside.spare_count - z)) (sym c.append-count.ensures.count)
+        counts = subst (λ z. HasCounts (atoms_of k.posts v) (mems_of k.posts t1 v) c.self.invariant.atoms (c.self.invariant.mems + z) (c.self.inside.spare_count - z)) (sym c.append-count.ensures.count)
             (more_counts k.posts k.table v inv b c.place_of_rules-to.result u g _ _ _ c.self.invariant.store.counts t1 ks c.append-count.ensures.rows room);
       };
       index = index_kept _ _ _ _ c.self.invariant.index _ _ refl (λ m. refl) (λ y. ap (λ (z : Heap). seen_by (z.mems y)) e ∙ seen_rules (heap_of k) b ks y);

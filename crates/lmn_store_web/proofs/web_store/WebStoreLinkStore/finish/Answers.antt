@@ -4,6 +4,7 @@ use Rattle.lmn_store_heap.specs.Heap.{finished}
 use Rattle.lmn_web_merging.specs.Keepers.{merged_by}
 use Rattle.lmn_store_web.specs.WebHeaps.{KeptWeb, heap_of}
 use Rattle.lmn_store_web.specs.WebStores.{kept_by}
+use Rattle.lmn_store_web.specs.Frees.{MayFree}
 use Rattle.lmn_store_web.proofs.SoundLemmas.{merged_formed}
 use Rattle.lmn_store_web.proofs.FreeLemmas.{frees_both}
 use Rattle.lmn_store_web.proofs.EndLemmas.{finish_free, finished_heap}
@@ -16,25 +17,30 @@ pub free_atoms-requires : goal.free_atoms-requires
 free_atoms-requires c =
     let k = kept_by c.self.inside in let w = merged_by k.web in
     let h = finish_free k.posts k.table w c.self.invariant.store.stored c.listed.ensures c.paired.ensures (merged_formed k.web) _ _ _ c.self.invariant.store.counts (subst (λ (z : KeptWeb). Ready (heap_of z)) (sym c.self.view_is) c.requires) in
-    (k.posts, k.table, c.self.inside.mem_count, c.self.inside.spare_count, h)
+    (k.posts, k.table, c.self.inside.spare_count, record { atoms = c.self.invariant.atoms; mems = c.self.invariant.mems; can = h; sum = c.self.invariant.sum })
 
 pub free_mems-requires : goal.free_mems-requires
 free_mems-requires c =
     let k = kept_by c.self.inside in let w = merged_by k.web in
     let h = finish_free k.posts k.table w c.self.invariant.store.stored c.listed.ensures c.paired.ensures (merged_formed k.web) _ _ _ c.self.invariant.store.counts (subst (λ (z : KeptWeb). Ready (heap_of z)) (sym c.self.view_is) c.requires) in
-    (k.posts, c.free_atoms.new.count, (c.free_atoms.ensures.freed k.posts k.table c.self.inside.mem_count c.self.inside.spare_count h).0)
+    let may : MayFree k.posts k.posts.gone k.table w c.self.inside.count c.self.inside.spare_count = record { atoms = c.self.invariant.atoms; mems = c.self.invariant.mems; can = h; sum = c.self.invariant.sum } in
+    (k.posts, (c.free_atoms.ensures.freed k.posts k.table c.self.inside.spare_count may).0)
 
 pub invariant_of-self : goal.invariant_of-self
 invariant_of-self c =
     let k = kept_by c.self.inside in let w = merged_by k.web in
     let h = finish_free k.posts k.table w c.self.invariant.store.stored c.listed.ensures c.paired.ensures (merged_formed k.web) _ _ _ c.self.invariant.store.counts (subst (λ (z : KeptWeb). Ready (heap_of z)) (sym c.self.view_is) c.requires) in
-    let a = c.free_atoms.ensures.freed k.posts k.table c.self.inside.mem_count c.self.inside.spare_count h in
-    let m = c.free_mems.ensures.freed k.posts c.free_atoms.new.count a.0 in
+    let may : MayFree k.posts k.posts.gone k.table w c.self.inside.count c.self.inside.spare_count = record { atoms = c.self.invariant.atoms; mems = c.self.invariant.mems; can = h; sum = c.self.invariant.sum } in
+    let a = c.free_atoms.ensures.freed k.posts k.table c.self.inside.spare_count may in
+    let m = c.free_mems.ensures.freed k.posts a.0 in
     let v = merged_by c.free_mems.new.web in let g = c.free_mems.new.rules.slots in
     let frees = frees_both k.posts k.posts.gone k.table w k.table (merged_by c.free_atoms.new.web) g v a.1 m.1 in
     let heap = finished_heap k.posts k.table w g v c.listed-2.ensures c.self.invariant.store.stored.apart frees (c.free_mems.ensures.atoms ∙ c.free_atoms.ensures.none) c.free_mems.ensures.none in
     record {
-      store = record { stored = m.0.stored; counts = m.0.counts };
+      atoms = m.0.atoms;
+      mems = m.0.mems;
+      sum = m.0.sum;
+      store = record { stored = m.0.can.stored; counts = m.0.can.counts };
       index = index_freed k.posts k.table w g v c.self.invariant.store.stored c.listed-2.ensures frees.labels mem_unless_gone gone mem_removes_gone goes (λ y. ap (λ (h : Heap). h.mems y) heap) (λ m e. ((subst (λ (z : KeptWeb). Ready (heap_of z)) (sym c.self.view_is) c.requires).empty m e).1) _ _ c.self.invariant.index;
     }
 
@@ -42,8 +48,9 @@ pub returns : goal.returns
 returns c =
     let k = kept_by c.self.inside in let w = merged_by k.web in
     let h = finish_free k.posts k.table w c.self.invariant.store.stored c.listed.ensures c.paired.ensures (merged_formed k.web) _ _ _ c.self.invariant.store.counts (subst (λ (z : KeptWeb). Ready (heap_of z)) (sym c.self.view_is) c.requires) in
-    let a = c.free_atoms.ensures.freed k.posts k.table c.self.inside.mem_count c.self.inside.spare_count h in
-    let m = c.free_mems.ensures.freed k.posts c.free_atoms.new.count a.0 in
+    let may : MayFree k.posts k.posts.gone k.table w c.self.inside.count c.self.inside.spare_count = record { atoms = c.self.invariant.atoms; mems = c.self.invariant.mems; can = h; sum = c.self.invariant.sum } in
+    let a = c.free_atoms.ensures.freed k.posts k.table c.self.inside.spare_count may in
+    let m = c.free_mems.ensures.freed k.posts a.0 in
     let v = merged_by c.free_mems.new.web in let g = c.free_mems.new.rules.slots in
     finished_heap k.posts k.table w g v c.listed-2.ensures c.self.invariant.store.stored.apart (frees_both k.posts k.posts.gone k.table w k.table (merged_by c.free_atoms.new.web) g v a.1 m.1)
     (c.free_mems.ensures.atoms ∙ c.free_atoms.ensures.none) c.free_mems.ensures.none

@@ -11,7 +11,13 @@ pub overflow_sub-result : goal.overflow_sub-result
 overflow_sub-result c =
     let k = kept_by c.self.inside in
     let inv = c.self.invariant.store.stored in
-    let w = some_mem (heap_of k) _ _ _ c.self.invariant.store.counts (root_there k.posts k.table (merged_by k.web) inv c.listed.ensures c.paired.ensures (merged_formed k.web)) in omega (arith, w)
+    let w = some_mem (heap_of k) _ _ _ c.self.invariant.store.counts (root_there k.posts k.table (merged_by k.web) inv c.listed.ensures c.paired.ensures (merged_formed k.web)) in let sum = c.self.invariant.sum in omega (arith, w, sum)
+
+pub overflow_sub-result-2 : goal.overflow_sub-result-2
+overflow_sub-result-2 c =
+    let k = kept_by c.self.inside in
+    let inv = c.self.invariant.store.stored in
+    let w = some_mem (heap_of k) _ _ _ c.self.invariant.store.counts (root_there k.posts k.table (merged_by k.web) inv c.listed.ensures c.paired.ensures (merged_formed k.web)) in let sum = c.self.invariant.sum in omega (arith, w, sum)
 
 pub returns : goal.returns
 returns c f t =
@@ -20,4 +26,4 @@ returns c f t =
     let w = some_mem (heap_of k) _ _ _ c.self.invariant.store.counts (root_there k.posts k.table (merged_by k.web) inv c.listed.ensures c.paired.ensures (merged_formed k.web)) in
     let e = items_are (heap_of k) (heap_sound k.posts k.table (merged_by k.web) inv c.listed.ensures c.paired.ensures (merged_formed k.web)) _ _ _ c.self.invariant.store.counts
     (subst (λ (z : KeptWeb). AllInPlace (heap_of z)) (sym c.self.view_is) c.requires) f (subst (λ (z : KeptWeb). IsTree (heap_of z) f) (sym c.self.view_is) t) in
-    subst (λ (z : KeptWeb). c.self.inside.atom_count + c.self.inside.mem_count - 1 + 1 ≡ item_count_in (heap_of z) (flat f)) c.self.view_is (omega (arith, w, e))
+    subst (λ (z : KeptWeb). c.self.inside.count - c.self.inside.spare_count - 1 + 1 ≡ item_count_in (heap_of z) (flat f)) c.self.view_is (let sum = c.self.invariant.sum in omega (arith, w, e, sum))

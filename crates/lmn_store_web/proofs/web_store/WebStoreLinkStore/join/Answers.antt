@@ -46,9 +46,12 @@ invariant_of-self c =
     let links = joined_links k.posts k.table v (cell_id c.args.a) c.args.i (cell_id c.args.b) c.args.j in
     let t = ap (λ (f : ℕ → Option WebCell). heap_by k.posts k.table f) e ∙ joined_heap k.posts k.table v (cell_id c.args.a) c.args.i (cell_id c.args.b) c.args.j c.self.invariant.store.stored c.listed.ensures c.paired.ensures (merged_formed k.web) in
     record {
+      atoms = c.self.invariant.atoms;
+      mems = c.self.invariant.mems;
+      sum = c.self.invariant.sum;
       store = record {
         stored = subst (λ (f : ℕ → Option WebCell). IsStored k.posts k.table f) (sym e) (stored_same v _ links.cores k.posts k.table c.self.invariant.store.stored);
-        counts = subst (λ (f : ℕ → Option WebCell). HasCounts (atoms_of k.posts f) (mems_of k.posts k.table f) c.self.inside.atom_count c.self.inside.mem_count c.self.inside.spare_count) (sym e)
+        counts = subst (λ (f : ℕ → Option WebCell). HasCounts (atoms_of k.posts f) (mems_of k.posts k.table f) c.self.invariant.atoms c.self.invariant.mems c.self.inside.spare_count) (sym e)
             (links.counts _ _ _ c.self.invariant.store.counts);
       };
       index = index_kept _ _ _ _ c.self.invariant.index _ _ refl (λ m. key_by v (merged_by c.join.new.self) m (ap (λ (f : ℕ → Option WebCell). web_label f m) e ∙ label_same v _ links.cores m)) (λ m. ap (λ (h : Heap). seen_by (h.mems m)) t);

@@ -1,4 +1,4 @@
-use Rattle.std.proofs.Common.{◌≡◌, subst, sym, ap, ◌∙◌, refl, ℕ, inl, arith}
+use Rattle.std.proofs.Common.{◌≡◌, ◌+◌, subst, sym, ap, ◌∙◌, refl, ℕ, inl, arith}
 use Rattle.std.specs.Prelude.{Option}
 use Rattle.lmn_base.proofs.Lists.{on_err}
 use Rattle.lmn_store_heap.specs.Heap.{made_atom}
@@ -108,9 +108,12 @@ invariant_of-self c =
     let v = merged_by k.web in
     let inv = c.self.invariant.store.stored in
     record {
+      atoms = c.self.invariant.atoms;
+      mems = c.self.invariant.mems;
+      sum = c.self.invariant.sum;
       store = record {
         stored = subst (λ (f : ℕ → Option WebCell). IsStored p k.table f) (sym c.in_err-a.ensures) inv;
-        counts = subst (λ (f : ℕ → Option WebCell). HasCounts (atoms_of p f) (mems_of p k.table f) c.self.inside.atom_count c.self.inside.mem_count c.self.inside.spare_count) (sym c.in_err-a.ensures) c.self.invariant.store.counts;
+        counts = subst (λ (f : ℕ → Option WebCell). HasCounts (atoms_of p f) (mems_of p k.table f) c.self.invariant.atoms c.self.invariant.mems c.self.inside.spare_count) (sym c.in_err-a.ensures) c.self.invariant.store.counts;
       };
       index = index_by _ _ _ _ (heap_by p k.table v) (heap_by p k.table (merged_by c.make.new.self)) (λ m. key_by v (merged_by c.make.new.self) m (ap (λ (f : ℕ → Option WebCell). web_label f m) c.in_err-a.ensures)) (ap (λ (f : ℕ → Option WebCell). heap_by p k.table f) c.in_err-a.ensures) c.self.invariant.index;
     }
@@ -135,13 +138,16 @@ invariant_of-self-2 c =
     let make = c.in_ok-a.ensures.1 in
     let w = merged_by c.add_last_plain.new.self in
     let d = made_line p v u (merged_by c.add_last_plain.new.self) a Atom c.number_of.result c.args.f.arity none (λ e. new_apart v u a _ _ _ none make p.waiting inv.waiting (sym e)) make c.add_last_plain.ensures in
-    let low = c.if-self-ge-BOUND.false in
+    let low = c.if-self-ge-BOUND.false in let sum = c.self.invariant.sum in
     let heap = made_atom_heap p k.table v w a c.number_of.result c.args.f.arity d inv c.number_of.ensures.range c.args.f c.number_of.ensures.back refl in
     let listed = (heap_sound p k.table v inv c.listed.ensures c.paired.ensures (merged_formed k.web)).listed in
     record {
+      atoms = c.self.invariant.atoms + 1;
+      mems = c.self.invariant.mems;
+      sum = omega (arith, sum);
       store = record {
         stored = atom_stored p k.table v w a c.number_of.result c.args.f.arity d inv c.number_of.ensures.range;
-        counts = made_atom_counts p k.table v w a c.number_of.result c.args.f.arity d inv c.number_of.ensures.range c.args.f c.number_of.ensures.back refl _ _ _ (omega (arith, low)) c.self.invariant.store.counts;
+        counts = made_atom_counts p k.table v w a c.number_of.result c.args.f.arity d inv c.number_of.ensures.range c.args.f c.number_of.ensures.back refl _ _ _ (omega (arith, low, sum)) c.self.invariant.store.counts;
       };
       index = index_same _ _ _ _ c.self.invariant.index (key_of w) (heap_by p k.table w) refl (λ m. ap (λ (h : Heap). seen_by (h.mems m)) heap) (made_key p v w a Atom c.number_of.result c.args.f.arity d k.table) (λ m y i. made_key p v w a Atom c.number_of.result c.args.f.arity d k.table y (members (heap_by p k.table v) listed m y i));
     }

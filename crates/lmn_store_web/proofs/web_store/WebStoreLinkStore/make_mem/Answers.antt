@@ -1,4 +1,4 @@
-use Rattle.std.proofs.Common.{◌≡◌, ◌≢◌, subst, sym, ap, ◌∙◌, ℕ, List, Some, None, arith, inl, inr}
+use Rattle.std.proofs.Common.{◌≡◌, ◌+◌, ◌≢◌, subst, sym, ap, ◌∙◌, ℕ, List, Some, None, arith, inl, inr}
 use Rattle.std.specs.Prelude.{Option, slice_index_or}
 use Rattle.slab.specs.Slab.{Slab}
 use Rattle.lmn_base.proofs.Lists.{on_err}
@@ -34,9 +34,12 @@ invariant_of-self c =
     let inv = c.self.invariant.store.stored in
     let same = ap (λ (s : Slab RuleList). s.slots) c.reserve.ensures.rest_kept in
     record {
+      atoms = c.self.invariant.atoms;
+      mems = c.self.invariant.mems;
+      sum = c.self.invariant.sum;
       store = record {
         stored = subst (λ (t : List (Option RuleList)). IsStored p t v) (sym same) inv;
-        counts = subst (λ (t : List (Option RuleList)). HasCounts (atoms_of p v) (mems_of p t v) c.self.inside.atom_count c.self.inside.mem_count c.self.inside.spare_count) (sym same) c.self.invariant.store.counts;
+        counts = subst (λ (t : List (Option RuleList)). HasCounts (atoms_of p v) (mems_of p t v) c.self.invariant.atoms c.self.invariant.mems c.self.inside.spare_count) (sym same) c.self.invariant.store.counts;
       };
       index = index_by _ _ _ _ (heap_of k) (heap_by p c.reserve.new.self.slots v) (λ m. refl) (ap (λ (t : List (Option RuleList)). heap_by p t v) same) c.self.invariant.index;
     }
@@ -68,10 +71,13 @@ invariant_of-self-in_err-m c =
     let now = c.in_ok-add.ensures.ok x.nest x.nested can in
     let kept = ap (λ (xs : List Cell). map cell_id xs) c.reserve-2.ensures.items in
     record {
+      atoms = c.self.invariant.atoms;
+      mems = c.self.invariant.mems;
+      sum = c.self.invariant.sum;
       store = record {
         stored = subst (λ (f : ℕ → Option WebCell). IsStored p t f) (sym c.in_err-m.ensures) (subst (λ (t : List (Option RuleList)). IsStored p t v) (sym same) inv);
-        counts = subst (λ (f : ℕ → Option WebCell). HasCounts (atoms_of p f) (mems_of p t f) c.self.inside.atom_count c.self.inside.mem_count c.self.inside.spare_count) (sym c.in_err-m.ensures)
-            (subst (λ (t : List (Option RuleList)). HasCounts (atoms_of p v) (mems_of p t v) c.self.inside.atom_count c.self.inside.mem_count c.self.inside.spare_count) (sym same) c.self.invariant.store.counts);
+        counts = subst (λ (f : ℕ → Option WebCell). HasCounts (atoms_of p f) (mems_of p t f) c.self.invariant.atoms c.self.invariant.mems c.self.inside.spare_count) (sym c.in_err-m.ensures)
+            (subst (λ (t : List (Option RuleList)). HasCounts (atoms_of p v) (mems_of p t v) c.self.invariant.atoms c.self.invariant.mems c.self.inside.spare_count) (sym same) c.self.invariant.store.counts);
       };
       index = subst (λ xs. IsIndexed (IsNested c.add.new.self) xs (key_of (merged_by c.make.new.self)) (heap_by p t (merged_by c.make.new.self))) (sym kept)
           (index_by (IsNested c.add.new.self) _ (key_of v) (key_of (merged_by c.make.new.self)) (heap_of k) (heap_by p t (merged_by c.make.new.self)) (λ m. key_by v (merged_by c.make.new.self) m (ap (λ (f : ℕ → Option WebCell). web_label f m) c.in_err-m.ensures))
@@ -191,7 +197,7 @@ invariant_of-self-2 c =
     let row = ap (λ z. slice_index_or t1 z None) (sym key) ∙ c.insert_reserved.ensures.updates.changed ∙ ap Some c.new.ensures in
     let others : (i : ℕ) → i ≢ l → slice_index_or t1 i None ≡ slice_index_or k.table i None = λ i d. c.insert_reserved.ensures.updates.others i (λ e. d (e ∙ key)) ∙ ap (λ (xs : List (Option RuleList)). slice_index_or xs i None) same in
     let d = made_line p v u w m Membrane l 0 none (λ e. new_apart v u m _ 0 _ none make p.waiting inv.waiting (sym e)) make c.add_last.ensures in
-    let low = c.if-self-ge-BOUND.false in
+    let least = c.if-self-ge-BOUND.false in let sum = c.self.invariant.sum in
     let free = vacant_key p k.table v inv l (ap (λ (xs : List (Option RuleList)). slice_index_or xs l None) (sym same) ∙ c.vacant_key-place.ensures.vacant) in
     let test = c.if-place-len.false in let len = c.len.ensures in let many = length-map c.self.inside.mems.items cell_id in
     let low : l ≤ length (map cell_id c.self.inside.mems.items) = omega (arith, test, len, many) in
@@ -201,9 +207,12 @@ invariant_of-self-2 c =
     let now = c.in_ok-add.ensures.ok x.nest x.nested can in
     let kept = ap (λ (xs : List Cell). map cell_id xs) c.reserve-2.ensures.items in
     record {
+      atoms = c.self.invariant.atoms;
+      mems = c.self.invariant.mems + 1;
+      sum = omega (arith, sum);
       store = record {
         stored = mem_stored p k.table t1 v w m l d inv vacant row others;
-        counts = made_mem_counts p k.table t1 v w m l d inv vacant row others _ _ _ (omega (arith, low)) c.self.invariant.store.counts;
+        counts = made_mem_counts p k.table t1 v w m l d inv vacant row others _ _ _ (omega (arith, least, sum)) c.self.invariant.store.counts;
       };
       index = subst (λ xs. IsIndexed (IsNested c.add.new.self) xs (key_of w) (heap_by p t1 w)) (sym (c.hold.ensures ∙ ap (λ xs. held l m xs) kept))
           (index_by (IsNested c.add.new.self) _ (key_of w) (key_of w) (made_mem (heap_of k) m) (heap_by p t1 w) (λ y. refl) (made_mem_heap p k.table t1 v w m l d inv vacant row others)
@@ -255,9 +264,12 @@ invariant_of-self-then-place-len c =
     let inv = c.self.invariant.store.stored in
     let same = ap (λ (s : Slab RuleList). s.slots) c.reserve.ensures.rest_kept in
     record {
+      atoms = c.self.invariant.atoms;
+      mems = c.self.invariant.mems;
+      sum = c.self.invariant.sum;
       store = record {
         stored = subst (λ (t : List (Option RuleList)). IsStored p t v) (sym same) inv;
-        counts = subst (λ (t : List (Option RuleList)). HasCounts (atoms_of p v) (mems_of p t v) c.self.inside.atom_count c.self.inside.mem_count c.self.inside.spare_count) (sym same) c.self.invariant.store.counts;
+        counts = subst (λ (t : List (Option RuleList)). HasCounts (atoms_of p v) (mems_of p t v) c.self.invariant.atoms c.self.invariant.mems c.self.inside.spare_count) (sym same) c.self.invariant.store.counts;
       };
       index = index_by _ _ _ _ (heap_of k) (heap_by p c.reserve.new.self.slots v) (λ m. refl) (ap (λ (t : List (Option RuleList)). heap_by p t v) same) c.self.invariant.index;
     }
@@ -280,9 +292,12 @@ invariant_of-self-in_err-reserve-2 c =
     let same = ap (λ (s : Slab RuleList). s.slots) c.reserve.ensures.rest_kept in
     let kept = ap (λ (xs : List Cell). map cell_id xs) c.reserve-2.ensures.items in
     record {
+      atoms = c.self.invariant.atoms;
+      mems = c.self.invariant.mems;
+      sum = c.self.invariant.sum;
       store = record {
         stored = subst (λ (t : List (Option RuleList)). IsStored p t v) (sym same) inv;
-        counts = subst (λ (t : List (Option RuleList)). HasCounts (atoms_of p v) (mems_of p t v) c.self.inside.atom_count c.self.inside.mem_count c.self.inside.spare_count) (sym same) c.self.invariant.store.counts;
+        counts = subst (λ (t : List (Option RuleList)). HasCounts (atoms_of p v) (mems_of p t v) c.self.invariant.atoms c.self.invariant.mems c.self.inside.spare_count) (sym same) c.self.invariant.store.counts;
       };
       index = subst (λ xs. IsIndexed (IsNested c.self.inside.index) xs (key_of v) (heap_by p c.reserve.new.self.slots v)) (sym kept) (index_by _ _ _ _ (heap_of k) (heap_by p c.reserve.new.self.slots v) (λ m. refl) (ap (λ (t : List (Option RuleList)). heap_by p t v) same) c.self.invariant.index);
     }
@@ -305,9 +320,12 @@ invariant_of-self-in_err-add c =
     let same = ap (λ (s : Slab RuleList). s.slots) c.reserve.ensures.rest_kept in
     let kept = ap (λ (xs : List Cell). map cell_id xs) c.reserve-2.ensures.items in
     record {
+      atoms = c.self.invariant.atoms;
+      mems = c.self.invariant.mems;
+      sum = c.self.invariant.sum;
       store = record {
         stored = subst (λ (t : List (Option RuleList)). IsStored p t v) (sym same) inv;
-        counts = subst (λ (t : List (Option RuleList)). HasCounts (atoms_of p v) (mems_of p t v) c.self.inside.atom_count c.self.inside.mem_count c.self.inside.spare_count) (sym same) c.self.invariant.store.counts;
+        counts = subst (λ (t : List (Option RuleList)). HasCounts (atoms_of p v) (mems_of p t v) c.self.invariant.atoms c.self.invariant.mems c.self.inside.spare_count) (sym same) c.self.invariant.store.counts;
       };
       index = subst (λ i. IsIndexed (IsNested i) (map cell_id c.reserve-2.new.self.items) (key_of v) (heap_by p c.reserve.new.self.slots v)) (sym c.in_err-add.ensures.err)
           (subst (λ xs. IsIndexed (IsNested c.self.inside.index) xs (key_of v) (heap_by p c.reserve.new.self.slots v)) (sym kept) (index_by _ _ _ _ (heap_of k) (heap_by p c.reserve.new.self.slots v) (λ m. refl) (ap (λ (t : List (Option RuleList)). heap_by p t v) same) c.self.invariant.index));

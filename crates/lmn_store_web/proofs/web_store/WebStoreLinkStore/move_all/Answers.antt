@@ -27,7 +27,7 @@ use Rattle.lmn_store_heap.proofs.Heights.{mem_of_place}
 pub move_all-requires-clause-source : goal.move_all-requires-clause-source
 move_all-requires-clause-source c =
     let k = kept_by c.self.inside in let w = merged_by k.web in let m = cell_id c.args.m in let n = cell_id c.args.n in
-    let h = can_send k.posts k.table w m n c.self.inside.atom_count c.self.inside.mem_count c.self.inside.spare_count c.self.invariant.store.stored c.self.invariant.store.counts
+    let h = can_send k.posts k.table w m n c.self.invariant.atoms c.self.invariant.mems c.self.inside.spare_count c.self.invariant.store.stored c.self.invariant.store.counts
     (subst (λ (z : KeptWeb). mem_place_of (heap_of z) m ≡ Some gone) (sym c.self.view_is) c.requires.gone) (subst (λ (z : KeptWeb). IsMemInPlace (heap_of z) n) (sym c.self.view_is) c.requires.mem) (subst (λ (z : KeptWeb). IsOutside (heap_of z) n m) (sym c.self.view_is) c.requires.outside) in
     let at : home_at w m ≡ Some k.posts.gone = gone_at k.posts k.table w m (subst (λ (z : KeptWeb). mem_place_of (heap_of z) m ≡ Some gone) (sym c.self.view_is) c.requires.gone) in
     h.source
@@ -35,7 +35,7 @@ move_all-requires-clause-source c =
 pub move_all-requires-clause-target : goal.move_all-requires-clause-target
 move_all-requires-clause-target c =
     let k = kept_by c.self.inside in let w = merged_by k.web in let m = cell_id c.args.m in let n = cell_id c.args.n in
-    let h = can_send k.posts k.table w m n c.self.inside.atom_count c.self.inside.mem_count c.self.inside.spare_count c.self.invariant.store.stored c.self.invariant.store.counts
+    let h = can_send k.posts k.table w m n c.self.invariant.atoms c.self.invariant.mems c.self.inside.spare_count c.self.invariant.store.stored c.self.invariant.store.counts
     (subst (λ (z : KeptWeb). mem_place_of (heap_of z) m ≡ Some gone) (sym c.self.view_is) c.requires.gone) (subst (λ (z : KeptWeb). IsMemInPlace (heap_of z) n) (sym c.self.view_is) c.requires.mem) (subst (λ (z : KeptWeb). IsOutside (heap_of z) n m) (sym c.self.view_is) c.requires.outside) in
     let at : home_at w m ≡ Some k.posts.gone = gone_at k.posts k.table w m (subst (λ (z : KeptWeb). mem_place_of (heap_of z) m ≡ Some gone) (sym c.self.view_is) c.requires.gone) in
     h.target
@@ -43,7 +43,7 @@ move_all-requires-clause-target c =
 pub move_all-requires-clause-apart : goal.move_all-requires-clause-apart
 move_all-requires-clause-apart c =
     let k = kept_by c.self.inside in let w = merged_by k.web in let m = cell_id c.args.m in let n = cell_id c.args.n in
-    let h = can_send k.posts k.table w m n c.self.inside.atom_count c.self.inside.mem_count c.self.inside.spare_count c.self.invariant.store.stored c.self.invariant.store.counts
+    let h = can_send k.posts k.table w m n c.self.invariant.atoms c.self.invariant.mems c.self.inside.spare_count c.self.invariant.store.stored c.self.invariant.store.counts
     (subst (λ (z : KeptWeb). mem_place_of (heap_of z) m ≡ Some gone) (sym c.self.view_is) c.requires.gone) (subst (λ (z : KeptWeb). IsMemInPlace (heap_of z) n) (sym c.self.view_is) c.requires.mem) (subst (λ (z : KeptWeb). IsOutside (heap_of z) n m) (sym c.self.view_is) c.requires.outside) in
     let at : home_at w m ≡ Some k.posts.gone = gone_at k.posts k.table w m (subst (λ (z : KeptWeb). mem_place_of (heap_of z) m ≡ Some gone) (sym c.self.view_is) c.requires.gone) in
     h.apart
@@ -51,7 +51,7 @@ move_all-requires-clause-apart c =
 pub move_all-requires-clause-inside : goal.move_all-requires-clause-inside
 move_all-requires-clause-inside c =
     let k = kept_by c.self.inside in let w = merged_by k.web in let m = cell_id c.args.m in let n = cell_id c.args.n in
-    let h = can_send k.posts k.table w m n c.self.inside.atom_count c.self.inside.mem_count c.self.inside.spare_count c.self.invariant.store.stored c.self.invariant.store.counts
+    let h = can_send k.posts k.table w m n c.self.invariant.atoms c.self.invariant.mems c.self.inside.spare_count c.self.invariant.store.stored c.self.invariant.store.counts
     (subst (λ (z : KeptWeb). mem_place_of (heap_of z) m ≡ Some gone) (sym c.self.view_is) c.requires.gone) (subst (λ (z : KeptWeb). IsMemInPlace (heap_of z) n) (sym c.self.view_is) c.requires.mem) (subst (λ (z : KeptWeb). IsOutside (heap_of z) n m) (sym c.self.view_is) c.requires.outside) in
     let at : home_at w m ≡ Some k.posts.gone = gone_at k.posts k.table w m (subst (λ (z : KeptWeb). mem_place_of (heap_of z) m ≡ Some gone) (sym c.self.view_is) c.requires.gone) in
     λ e. h.target_goes (let z : Some n ≡ Some k.posts.gone = sym e ∙ at in cc)
@@ -59,7 +59,7 @@ move_all-requires-clause-inside c =
 pub move_all-requires-clause-outside : goal.move_all-requires-clause-outside
 move_all-requires-clause-outside c =
     let k = kept_by c.self.inside in let w = merged_by k.web in let m = cell_id c.args.m in let n = cell_id c.args.n in
-    let h = can_send k.posts k.table w m n c.self.inside.atom_count c.self.inside.mem_count c.self.inside.spare_count c.self.invariant.store.stored c.self.invariant.store.counts
+    let h = can_send k.posts k.table w m n c.self.invariant.atoms c.self.invariant.mems c.self.inside.spare_count c.self.invariant.store.stored c.self.invariant.store.counts
     (subst (λ (z : KeptWeb). mem_place_of (heap_of z) m ≡ Some gone) (sym c.self.view_is) c.requires.gone) (subst (λ (z : KeptWeb). IsMemInPlace (heap_of z) n) (sym c.self.view_is) c.requires.mem) (subst (λ (z : KeptWeb). IsOutside (heap_of z) n m) (sym c.self.view_is) c.requires.outside) in
     let at : home_at w m ≡ Some k.posts.gone = gone_at k.posts k.table w m (subst (λ (z : KeptWeb). mem_place_of (heap_of z) m ≡ Some gone) (sym c.self.view_is) c.requires.gone) in
     h.outside
@@ -73,14 +73,14 @@ move_all-requires-clause-own c e =
 pub move_all-requires-clause-owned : goal.move_all-requires-clause-owned
 move_all-requires-clause-owned c x in_m membrane e =
     let k = kept_by c.self.inside in let w = merged_by k.web in let m = cell_id c.args.m in let n = cell_id c.args.n in
-    let h = can_send k.posts k.table w m n c.self.inside.atom_count c.self.inside.mem_count c.self.inside.spare_count c.self.invariant.store.stored c.self.invariant.store.counts
+    let h = can_send k.posts k.table w m n c.self.invariant.atoms c.self.invariant.mems c.self.inside.spare_count c.self.invariant.store.stored c.self.invariant.store.counts
     (subst (λ (z : KeptWeb). mem_place_of (heap_of z) m ≡ Some gone) (sym c.self.view_is) c.requires.gone) (subst (λ (z : KeptWeb). IsMemInPlace (heap_of z) n) (sym c.self.view_is) c.requires.mem) (subst (λ (z : KeptWeb). IsOutside (heap_of z) n m) (sym c.self.view_is) c.requires.outside) in
     h.source_goes (let z : Some m ≡ Some k.posts.gone = sym in_m ∙ c.self.invariant.store.stored.lent x membrane e in cc)
 
 pub invariant_of-self : goal.invariant_of-self
 invariant_of-self c =
     let k = kept_by c.self.inside in let w = merged_by k.web in let m = cell_id c.args.m in let n = cell_id c.args.n in
-    let h = can_send k.posts k.table w m n c.self.inside.atom_count c.self.inside.mem_count c.self.inside.spare_count c.self.invariant.store.stored c.self.invariant.store.counts
+    let h = can_send k.posts k.table w m n c.self.invariant.atoms c.self.invariant.mems c.self.inside.spare_count c.self.invariant.store.stored c.self.invariant.store.counts
     (subst (λ (z : KeptWeb). mem_place_of (heap_of z) m ≡ Some gone) (sym c.self.view_is) c.requires.gone) (subst (λ (z : KeptWeb). IsMemInPlace (heap_of z) n) (sym c.self.view_is) c.requires.mem) (subst (λ (z : KeptWeb). IsOutside (heap_of z) n m) (sym c.self.view_is) c.requires.outside) in
     let at : home_at w m ≡ Some k.posts.gone = gone_at k.posts k.table w m (subst (λ (z : KeptWeb). mem_place_of (heap_of z) m ≡ Some gone) (sym c.self.view_is) c.requires.gone) in
     let v = merged_by c.move_all.new.self in
@@ -97,6 +97,9 @@ invariant_of-self c =
     let can = index_move _ _ _ _ index listed m n _ _ c.key_inside-one.result m_there n_there out one km kn in
     let heap = merged_heap k.posts k.table w v m n _ _ _ h c.listed.ensures c.move_all.ensures in
     record {
+      atoms = c.self.invariant.atoms;
+      mems = c.self.invariant.mems;
+      sum = c.self.invariant.sum;
       store = record { stored = merged_stored k.posts k.table w v m n _ _ _ h c.listed.ensures c.move_all.ensures at; counts = merged_counts k.posts k.table w v m n _ _ _ h c.listed.ensures c.move_all.ensures };
       index = index_by (IsNested c.move_inside.new.self) (map cell_id c.self.inside.mems.items) (key_of w) (key_of v) (moved_all (heap_of k) m n) (heap_by k.posts k.table v) (λ y. key_by w v y (labels_stay k.posts k.table w v m n _ _ _ h c.listed.ensures c.move_all.ensures y)) heap
           (index_moved _ _ _ _ index (IsNested c.move_inside.new.self) m n _ _ m_there n_there h.apart km kn (c.move_inside.ensures index.nest index.nested can));
@@ -105,7 +108,7 @@ invariant_of-self c =
 pub returns : goal.returns
 returns c =
     let k = kept_by c.self.inside in let w = merged_by k.web in let m = cell_id c.args.m in let n = cell_id c.args.n in
-    let h = can_send k.posts k.table w m n c.self.inside.atom_count c.self.inside.mem_count c.self.inside.spare_count c.self.invariant.store.stored c.self.invariant.store.counts
+    let h = can_send k.posts k.table w m n c.self.invariant.atoms c.self.invariant.mems c.self.inside.spare_count c.self.invariant.store.stored c.self.invariant.store.counts
     (subst (λ (z : KeptWeb). mem_place_of (heap_of z) m ≡ Some gone) (sym c.self.view_is) c.requires.gone) (subst (λ (z : KeptWeb). IsMemInPlace (heap_of z) n) (sym c.self.view_is) c.requires.mem) (subst (λ (z : KeptWeb). IsOutside (heap_of z) n m) (sym c.self.view_is) c.requires.outside) in
     let at : home_at w m ≡ Some k.posts.gone = gone_at k.posts k.table w m (subst (λ (z : KeptWeb). mem_place_of (heap_of z) m ≡ Some gone) (sym c.self.view_is) c.requires.gone) in
     merged_heap k.posts k.table w (merged_by c.move_all.new.self) m n _ _ _ h c.listed.ensures c.move_all.ensures ∙ ap (λ (z : KeptWeb). moved_all (heap_of z) m n) c.self.view_is
@@ -113,7 +116,7 @@ returns c =
 pub move_inside-requires : goal.move_inside-requires
 move_inside-requires c =
     let k = kept_by c.self.inside in let w = merged_by k.web in let m = cell_id c.args.m in let n = cell_id c.args.n in
-    let h = can_send k.posts k.table w m n c.self.inside.atom_count c.self.inside.mem_count c.self.inside.spare_count c.self.invariant.store.stored c.self.invariant.store.counts
+    let h = can_send k.posts k.table w m n c.self.invariant.atoms c.self.invariant.mems c.self.inside.spare_count c.self.invariant.store.stored c.self.invariant.store.counts
     (subst (λ (z : KeptWeb). mem_place_of (heap_of z) m ≡ Some gone) (sym c.self.view_is) c.requires.gone) (subst (λ (z : KeptWeb). IsMemInPlace (heap_of z) n) (sym c.self.view_is) c.requires.mem) (subst (λ (z : KeptWeb). IsOutside (heap_of z) n m) (sym c.self.view_is) c.requires.outside) in
     let out = subst (λ (z : KeptWeb). IsOutside (heap_of z) n m) (sym c.self.view_is) c.requires.outside in
     let source = subst (λ (z : KeptWeb). HasRules z.table (merged_by z.web) m c.place_of_rules-source.result) (sym c.self.view_is) c.place_of_rules-source.ensures in

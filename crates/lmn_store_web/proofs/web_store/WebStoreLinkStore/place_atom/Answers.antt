@@ -62,6 +62,9 @@ invariant_of-self c =
     let s = c.send_first.ensures in
     let t = placed_heap k.posts k.table w v n x s c.self.invariant.store.stored.waiting q.no_line q.no_end q.kind first in
     record {
+      atoms = c.self.invariant.atoms;
+      mems = c.self.invariant.mems;
+      sum = c.self.invariant.sum;
       store = record {
         stored = sent_stored w v k.posts.waiting n x s k.posts k.table c.self.invariant.store.stored q.home q.no_line q.fits c.self.invariant.store.stored.apart;
         counts = sent_counts w v k.posts.waiting n x s k.posts k.table _ _ _ c.self.invariant.store.counts;

@@ -26,13 +26,16 @@ invariant_of-self-2 c =
     let h = subst (λ (z : KeptWeb). HasRules z.table (merged_by z.web) m c.place_of_rules-place.result) (sym c.self.view_is) c.place_of_rules-place.ensures in
     let low = c.if-n-spare-2.false in
     let more = c.if-n-spare.false in
-    let bound = c.self.invariant.store.counts.bound in
+    let bound = c.self.invariant.store.counts.bound in let sum = c.self.invariant.sum in
     let is = room_is k.posts k.table (merged_by k.web) c.self.invariant.store.stored m c.place_of_rules-place.result s h c.index.result.now c.index.ensures ∙ sym c.spare-spare.ensures in
     let t = room_heap k.posts k.table (merged_by k.web) c.self.invariant.store.stored m c.place_of_rules-place.result s h _ _ _ c.self.invariant.store.counts _ c.args.n c.in_ok-reserve.ensures.ok in
     record {
+      atoms = c.self.invariant.atoms;
+      mems = c.self.invariant.mems;
+      sum = omega (arith, sum);
       store = record {
         stored = room_stored k.posts k.table (merged_by k.web) c.self.invariant.store.stored m c.place_of_rules-place.result s h _ _ _ c.self.invariant.store.counts _ c.args.n c.in_ok-reserve.ensures.ok;
-        counts = room_counts k.posts k.table (merged_by k.web) c.self.invariant.store.stored m c.place_of_rules-place.result s h _ _ _ c.self.invariant.store.counts _ c.args.n c.in_ok-reserve.ensures.ok c.spare-spare.result is (omega (arith, more)) (omega (arith, low, more, bound));
+        counts = room_counts k.posts k.table (merged_by k.web) c.self.invariant.store.stored m c.place_of_rules-place.result s h _ _ _ c.self.invariant.store.counts _ c.args.n c.in_ok-reserve.ensures.ok c.spare-spare.result is (omega (arith, more)) (omega (arith, low, more, bound, sum));
       };
       index = index_kept _ _ _ _ c.self.invariant.index _ _ refl (λ m. refl) (λ y. ap (λ (u : Heap). seen_by (u.mems y)) t ∙ seen_reserved (heap_of k) m c.args.n y);
     }
@@ -74,9 +77,12 @@ invariant_of-self c =
     let v = merged_by k.web in
     let same = c.in_err-reserve.ensures.err in
     record {
+      atoms = c.self.invariant.atoms;
+      mems = c.self.invariant.mems;
+      sum = c.self.invariant.sum;
       store = record {
         stored = subst (λ (t : List (Option RuleList)). IsStored p t v) (sym same) c.self.invariant.store.stored;
-        counts = subst (λ (t : List (Option RuleList)). HasCounts (atoms_of p v) (mems_of p t v) c.self.inside.atom_count c.self.inside.mem_count c.self.inside.spare_count) (sym same) c.self.invariant.store.counts;
+        counts = subst (λ (t : List (Option RuleList)). HasCounts (atoms_of p v) (mems_of p t v) c.self.invariant.atoms c.self.invariant.mems c.self.inside.spare_count) (sym same) c.self.invariant.store.counts;
       };
       index = index_by _ _ _ _ (heap_of k) (heap_by p c.reserve.new.table.slots v) (λ m. refl) (ap (λ (t : List (Option RuleList)). heap_by p t v) same) c.self.invariant.index;
     }

@@ -36,9 +36,12 @@ invariant_of-self c =
     let e = c.set_mark.ensures in
     let t = ap (λ (f : ℕ → Option WebCell). heap_by k.posts k.table f) e ∙ marked_heap k.posts k.table v a c.args.slot c.args.v (inl i.1) i.1 in
     record {
+      atoms = c.self.invariant.atoms;
+      mems = c.self.invariant.mems;
+      sum = c.self.invariant.sum;
       store = record {
         stored = subst (λ (f : ℕ → Option WebCell). IsStored k.posts k.table f) (sym e) (stored_same v _ (core_same k.posts k.table v a c.args.slot c.args.v (inl i.1)) k.posts k.table c.self.invariant.store.stored);
-        counts = subst (λ (f : ℕ → Option WebCell). HasCounts (atoms_of k.posts f) (mems_of k.posts k.table f) c.self.inside.atom_count c.self.inside.mem_count c.self.inside.spare_count) (sym e) (marked_counts k.posts k.table v a c.args.slot c.args.v (inl i.1) i.1 _ _ _ c.self.invariant.store.counts);
+        counts = subst (λ (f : ℕ → Option WebCell). HasCounts (atoms_of k.posts f) (mems_of k.posts k.table f) c.self.invariant.atoms c.self.invariant.mems c.self.inside.spare_count) (sym e) (marked_counts k.posts k.table v a c.args.slot c.args.v (inl i.1) i.1 _ _ _ c.self.invariant.store.counts);
       };
       index = index_kept _ _ _ _ c.self.invariant.index _ _ refl (λ m. key_by v (merged_by c.set_mark.new.self) m (ap (λ (f : ℕ → Option WebCell). web_label f m) e ∙ label_same v _ (core_same k.posts k.table v a c.args.slot c.args.v (inl i.1)) m)) (λ m. ap (λ (h : Heap). seen_by (h.mems m)) t);
     }

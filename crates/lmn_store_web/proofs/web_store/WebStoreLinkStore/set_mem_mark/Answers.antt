@@ -43,9 +43,12 @@ invariant_of-self-2 c =
     let heap = ap (λ (f : ℕ → Option WebCell). heap_by k.posts k.table f) e ∙ mem_marked_heap k.posts k.table v m c.args.v i.1 (merged_formed k.web) in
     let now = c.wake.ensures x.nest x.nested low was in
     record {
+      atoms = c.self.invariant.atoms;
+      mems = c.self.invariant.mems;
+      sum = c.self.invariant.sum;
       store = record {
         stored = subst (λ (f : ℕ → Option WebCell). IsStored k.posts k.table f) (sym e) (stored_same v _ (core_same k.posts k.table v m 0 c.args.v (inr refl)) k.posts k.table c.self.invariant.store.stored);
-        counts = subst (λ (f : ℕ → Option WebCell). HasCounts (atoms_of k.posts f) (mems_of k.posts k.table f) c.self.inside.atom_count c.self.inside.mem_count c.self.inside.spare_count) (sym e)
+        counts = subst (λ (f : ℕ → Option WebCell). HasCounts (atoms_of k.posts f) (mems_of k.posts k.table f) c.self.invariant.atoms c.self.invariant.mems c.self.inside.spare_count) (sym e)
             (mem_marked_counts k.posts k.table v m c.args.v i.1 (merged_formed k.web) _ _ _ c.self.invariant.store.counts);
       };
       index = index_by (IsNested c.wake.new.index) (map cell_id c.self.inside.mems.items) (key_of v) (key_of w) (mem_marked (heap_of k) m c.args.v) (heap_by k.posts k.table w) (λ y. key_by v w y (ap (λ (f : ℕ → Option WebCell). web_label f y) e ∙ label_same v _ (core_same k.posts k.table v m 0 c.args.v (inr refl)) y)) heap
@@ -97,9 +100,12 @@ invariant_of-self c =
     let root = eqb-true m k.posts.root (sym c.same.ensures ∙ c.if-same.true) in
     let heap = ap (λ (f : ℕ → Option WebCell). heap_by k.posts k.table f) e ∙ mem_marked_heap k.posts k.table v m c.args.v i.1 (merged_formed k.web) in
     record {
+      atoms = c.self.invariant.atoms;
+      mems = c.self.invariant.mems;
+      sum = c.self.invariant.sum;
       store = record {
         stored = subst (λ (f : ℕ → Option WebCell). IsStored k.posts k.table f) (sym e) (stored_same v _ (core_same k.posts k.table v m 0 c.args.v (inr refl)) k.posts k.table c.self.invariant.store.stored);
-        counts = subst (λ (f : ℕ → Option WebCell). HasCounts (atoms_of k.posts f) (mems_of k.posts k.table f) c.self.inside.atom_count c.self.inside.mem_count c.self.inside.spare_count) (sym e)
+        counts = subst (λ (f : ℕ → Option WebCell). HasCounts (atoms_of k.posts f) (mems_of k.posts k.table f) c.self.invariant.atoms c.self.invariant.mems c.self.inside.spare_count) (sym e)
             (mem_marked_counts k.posts k.table v m c.args.v i.1 (merged_formed k.web) _ _ _ c.self.invariant.store.counts);
       };
       index = index_by (IsNested c.self.inside.index) (map cell_id c.self.inside.mems.items) (key_of v) (key_of w) (mem_marked (heap_of k) m c.args.v) (heap_by k.posts k.table w) (λ y. key_by v w y (ap (λ (f : ℕ → Option WebCell). web_label f y) e ∙ label_same v _ (core_same k.posts k.table v m 0 c.args.v (inr refl)) y)) heap

@@ -92,6 +92,9 @@ invariant_of-self c =
     let can = index_take _ _ _ _ index listed h.0 x _ _ there stands ka kb in
     let heap = taken_mem_heap k.posts k.table w v h.0 x s c.self.invariant.store.stored.apart q.no_line i.0 h.1 in
     record {
+      atoms = c.self.invariant.atoms;
+      mems = c.self.invariant.mems;
+      sum = c.self.invariant.sum;
       store = record {
         stored = sent_stored w v h.0 k.posts.gone x s k.posts k.table c.self.invariant.store.stored q.home (λ e. c.self.invariant.store.stored.apart (sym e)) q.fits i.3;
         counts = sent_counts w v h.0 k.posts.gone x s k.posts k.table _ _ _ c.self.invariant.store.counts;
