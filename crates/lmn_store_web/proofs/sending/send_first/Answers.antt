@@ -1,4 +1,4 @@
-use Rattle.std.proofs.Common.{ℕ, Some, IsSome, Option, sym, ap, subst, ◌∙◌, inl, inr, ◌≡◌}
+use Rattle.std.proofs.Common.{ℕ, IsSome, Option, sym, ap, subst, ◌∙◌, inl, inr, ◌≡◌}
 use Rattle.lmn_web_cells.specs.CellIds.{cell_id}
 use Rattle.lmn_web.specs.Webs.{WebCell, home_at, kind_at, added_last}
 use Rattle.lmn_web_merging.specs.Keepers.{merged_by, port_mark}

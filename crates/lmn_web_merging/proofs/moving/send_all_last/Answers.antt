@@ -3,7 +3,7 @@ use Rattle.std.specs.Option.{option_map}
 use Rattle.lmn_store_heap.specs.Lists.{from}
 use Rattle.lmn_web_cells.specs.CellIds.{cell_id}
 use Rattle.lmn_web.specs.Webs.{web_by, cells_in}
-use Rattle.lmn_web_merging.proofs.Sending.{kind_there, none_last, all_last, source_kind, target_kind, next_differs, next_elsewhere, first_home, first_kind, last_fewer, sent_last}
+use Rattle.lmn_web_merging.proofs.Sending.{none_last, all_last, source_kind, target_kind, next_differs, next_elsewhere, first_home, first_kind, last_fewer, sent_last}
 use Rattle.lmn_web_merging.proofs.moving.send_all_last.Goals as goal
 
 pub loop-c-init : goal.loop-c-init

@@ -5,7 +5,7 @@ use Rattle.lmn_web_cells.specs.Runs.{put_before}
 use Rattle.lmn_web.proofs.ListedLemmas.{from_in}
 use Rattle.lmn_web_cells.specs.CellIds.{cell_id}
 use Rattle.lmn_web.specs.Webs.{WebCell, web_by, home_at, kind_at, cells_in, unlinked, added_last, added_before, relisted}
-use Rattle.lmn_web_merging.proofs.Sending.{home_some, out_there, out_homeless, out_kind, out_kinds, list_u, goes, kind_there, put_first}
+use Rattle.lmn_web_merging.proofs.Sending.{home_some, out_there, out_homeless, out_kind, out_kinds, list_u, goes, put_first}
 use Rattle.lmn_web_merging.proofs.moving.send_first.Goals as goal
 use Rattle.lmn_base.proofs.Lists.{some_is}
 

@@ -1,4 +1,4 @@
-use Rattle.std.proofs.Common.{◌≡◌, ◌≢◌, [], ℕ, Some, refl, sym, ap, subst, ◌∙◌, inl}
+use Rattle.std.proofs.Common.{◌≡◌, ◌≢◌, [], Some, refl, sym, ap, subst, ◌∙◌, inl}
 use Rattle.lmn_store_heap.specs.Lists.{from}
 use Rattle.lmn_store_heap.specs.Heap.{IsMemInPlace, placed}
 use Rattle.lmn_web_cells.specs.CellIds.{cell_id}

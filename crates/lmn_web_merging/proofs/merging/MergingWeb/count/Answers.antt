@@ -5,7 +5,6 @@ use Rattle.lmn_web.specs.declared.kind.CellKind.TheVariants.{Membrane}
 use Rattle.lmn_web.specs.Webs.{web_by, kind_at, cells_in}
 use Rattle.lmn_web_merging.specs.Keepers.{keeper, merged_by}
 use Rattle.lmn_web_merging.proofs.Seen.{seen_membrane, seen_cells, keeper_kind}
-use Rattle.lmn_web_merging.proofs.Sending.{kind_there}
 use Rattle.lmn_web_merging.proofs.merging.MergingWeb.count.Goals as goal
 
 pub keeper_of-requires-clause-membrane : goal.keeper_of-requires-clause-membrane

@@ -7,7 +7,7 @@ use Rattle.lmn_web.specs.declared.kind.CellKind.TheVariants.{Membrane}
 use Rattle.lmn_web.specs.Webs.{web_by, kind_at, home_at, cells_in}
 use Rattle.lmn_web_merging.specs.Keepers.{keeper, seen, merged_by}
 use Rattle.lmn_web_merging.proofs.Seen.{seen_membrane, seen_cells, keeper_kind, home_seen, back}
-use Rattle.lmn_web_merging.proofs.Sending.{kind_there, home_of_first}
+use Rattle.lmn_web_merging.proofs.Sending.{home_of_first}
 use Rattle.lmn_web_merging.proofs.merging.MergingWeb.first.Goals as goal
 
 pub keeper_of-requires-clause-membrane : goal.keeper_of-requires-clause-membrane

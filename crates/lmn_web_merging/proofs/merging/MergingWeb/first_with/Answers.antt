@@ -8,7 +8,7 @@ use Rattle.lmn_web.specs.declared.kind.CellKind.TheVariants.{Atom, Membrane}
 use Rattle.lmn_web.specs.Webs.{web_by, kind_at, cells_in, with_label}
 use Rattle.lmn_web_merging.specs.Keepers.{keeper, seen, merged_by}
 use Rattle.lmn_web_merging.proofs.Seen.{seen_membrane, seen_cells, keeper_kind}
-use Rattle.lmn_web_merging.proofs.Sending.{kind_there, home_of_first}
+use Rattle.lmn_web_merging.proofs.Sending.{home_of_first}
 use Rattle.lmn_web_merging.proofs.Labelled.{labelled_alike}
 use Rattle.lmn_web_merging.proofs.merging.MergingWeb.first_with.Goals as goal
 

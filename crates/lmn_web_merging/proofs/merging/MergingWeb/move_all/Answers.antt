@@ -5,7 +5,7 @@ use Rattle.lmn_web.specs.declared.kind.CellKind.TheVariants.{Atom, Membrane}
 use Rattle.lmn_web.specs.Webs.{web_by, kind_at, home_at, cells_in}
 use Rattle.lmn_web_merging.specs.Keepers.{keeper, port_mark, LENT, merged_by, MovesAll}
 use Rattle.lmn_web_merging.proofs.Seen.{seen_membrane, keeper_kind}
-use Rattle.lmn_web_merging.proofs.Sending.{kind_there, source_kind, target_kind, target_home}
+use Rattle.lmn_web_merging.proofs.Sending.{source_kind, target_kind, target_home}
 use Rattle.lmn_web_merging.proofs.Merges.{kind_s, kind_d, differ, last_out, went_kept, went_all, first_out, trades, traded_all}
 use Rattle.lmn_web_merging.proofs.merging.MergingWeb.move_all.Goals as goal
 
