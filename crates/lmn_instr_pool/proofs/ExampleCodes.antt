@@ -2,9 +2,9 @@
 use Rattle.std.proofs.Common.{ℕ, zero, suc, ◌≡◌, ◌<◌, ◌≤◌, Some, refl, arith, sym, subst}
 use Rattle.std.specs.Prelude.{slice_get}
 use Rattle.lmn_instr_code.specs.declared.instr.Instr.{Instr}
-use Rattle.lmn_instr_code.specs.declared.instr.Instr.TheVariants.{RemoveAtom, NewMem, Proceed}
-use Rattle.lmn_instr_pool.specs.Extents.{Makes, Removes}
-use Rattle.lmn_instr_pool.specs.Examples.{MakingBegins, RemovalsEnd, making, removing}
+use Rattle.lmn_instr_code.specs.declared.instr.Instr.TheVariants.{Commit, NoRules, RemoveAtom, NewMem, Proceed}
+use Rattle.lmn_instr_pool.specs.Extents.{Acts, Makes, Removes}
+use Rattle.lmn_instr_pool.specs.Examples.{ActionsEnd, MakingBegins, RemovalsEnd, asking, making, removing}
 
 behind : (i : ℕ) (x : Instr) → 1 ≤ i → slice_get removing i ≡ Some x → Removes x → ⊥
 behind zero x l e p = omega (arith, l)
@@ -20,3 +20,11 @@ before (suc i) x l e p = omega (arith, l)
 
 pub making_begins : MakingBegins
 making_begins = (before, λ none. none 1 (NewMem 1 0) (omega arith) refl tt)
+
+at_end : (i : ℕ) (x : Instr) → 1 ≤ i → slice_get asking i ≡ Some x → Acts x → ⊥
+at_end zero x l e p = omega (arith, l)
+at_end (suc zero) x l e p = let same : Commit ≡ x = cc in subst Acts (sym same) p
+at_end (suc (suc i)) x l e p = absurd (cc)
+
+pub actions_end : ActionsEnd
+actions_end = (at_end, λ none. none 0 (NoRules 0) (omega arith) refl tt)

@@ -5,7 +5,7 @@ use Rattle.lmn_base.proofs.Lists.{get_there, get_below}
 use Rattle.lmn_instr_code.specs.declared.instr.Instr.{Instr}
 use Rattle.lmn_instr_pool.specs.declared.codes.Numbered.{Numbered}
 use Rattle.lmn_instr_pool.specs.Pools.{AreThere, Keeps, Selects, picked}
-use Rattle.lmn_instr_pool.specs.Extents.{HasExtent}
+use Rattle.lmn_instr_pool.specs.Extents.{EndsAt, HasExtent}
 use Rattle.lmn_instr_pool.specs.Stored.{AreStored, stored_codes}
 
 -- the instructions that the numbers of a pool are those of
@@ -85,16 +85,16 @@ keeps_stored p q k [] t = (refl, tt)
 keeps_stored p q k (c ∷ cs) t =
     let h = keeps_picked p q k c.head t.0.0 in
     let more = keeps_stored p q k cs t.1 in
-    (λ i. record { head = h.0 i; body = c.body } ∷ more.0 i, ((h.1, t.0.1), more.1))
+    (λ i. record { head = h.0 i; body = c.body } ∷ more.0 i, ((h.1, subst (λ xs. EndsAt c.acts xs) (sym h.0) t.0.1, t.0.2), more.1))
 
 -- one code more
-pub stored_more : (p : List Instr) (cs : List Numbered) (c : Numbered) (h : List Instr) → AreStored p cs → Selects p c.head h → HasExtent c.extent c.body →
+pub stored_more : (p : List Instr) (cs : List Numbered) (c : Numbered) (h : List Instr) → AreStored p cs → Selects p c.head h → EndsAt c.acts h → HasExtent c.extent c.body →
     (stored_codes p (cs ++ c ∷ []) ≡ stored_codes p cs ++ record { head = h; body = c.body } ∷ []) × AreStored p (cs ++ c ∷ [])
-stored_more p [] c h t s u =
+stored_more p [] c h t s n u =
     let e = selected p c.head h s in
-    (λ i. record { head = e i; body = c.body } ∷ [], ((selected_there p c.head h s, u), tt))
-stored_more p (d ∷ cs) c h t s u =
-    let more = stored_more p cs c h t.1 s u in
+    (λ i. record { head = e i; body = c.body } ∷ [], ((selected_there p c.head h s, subst (λ xs. EndsAt c.acts xs) (sym e) n, u), tt))
+stored_more p (d ∷ cs) c h t s n u =
+    let more = stored_more p cs c h t.1 s n u in
     (ap (λ xs. record { head = picked p d.head; body = d.body } ∷ xs) more.0, (t.0, more.1))
 
 -- there are as many codes as rows of numbers
@@ -102,11 +102,12 @@ pub stored_length : (p : List Instr) (cs : List Numbered) → length cs ≡ leng
 stored_length p [] = refl
 stored_length p (c ∷ cs) = ap (λ n. suc n) (stored_length p cs)
 
--- the code at a place has the head with the numbers there, the pool has the instructions of it, and the extent is that of its body
+-- the code at a place has the head with the numbers there, the pool has the instructions of it, which are COMMIT from a place on, and the
+-- extent is that of its body
 pub stored_at : (p : List Instr) (cs : List Numbered) (i : ℕ) (c : Numbered) → AreStored p cs → slice_get cs i ≡ Some c →
-    (slice_get (stored_codes p cs) i ≡ Some (record { head = picked p c.head; body = c.body })) × AreThere p c.head × HasExtent c.extent c.body
+    (slice_get (stored_codes p cs) i ≡ Some (record { head = picked p c.head; body = c.body })) × AreThere p c.head × EndsAt c.acts (picked p c.head) × HasExtent c.extent c.body
 stored_at p [] i c t e = absurd (cc)
 stored_at p (d ∷ cs) zero c t e =
     let same : d ≡ c = cc in
-    (ap (λ x. Some (record { head = picked p x.head; body = x.body })) same, subst (λ x. AreThere p x.head) same t.0.0, subst (λ x. HasExtent x.extent x.body) same t.0.1)
+    (ap (λ x. Some (record { head = picked p x.head; body = x.body })) same, subst (λ x. AreThere p x.head) same t.0.0, subst (λ x. EndsAt x.acts (picked p x.head)) same t.0.1, subst (λ x. HasExtent x.extent x.body) same t.0.2)
 stored_at p (d ∷ cs) (suc i) c t e = stored_at p cs i c t.1 e

@@ -2,7 +2,7 @@
 ghost use Rattle.std.specs.Prelude.{◌≡◌, [], ◌∷◌, ◌++◌, ◌<◌, length, slice_get, Some, IfOk, OnOk, OnErr};
 
 use crate::body::Body;
-use crate::extent::Extent;
+use crate::extent::{Extent, end_of_actions};
 use crate::instrs::Instrs;
 use crate::pool::Pool;
 use crate::view::CodeView;
@@ -11,10 +11,12 @@ use lmn_instr_code::{Code, Instr};
 use std::alloc::Global;
 use std::marker::Model;
 
-/// A code with the numbers of the instructions of its head in the pool, and with what is told of its body.
+/// A code with the numbers of the instructions of its head in the pool, the place from which on these are COMMIT, and with what is told of
+/// its body.
 #[derive(Drop)]
 struct Numbered {
     head: Rows<u32>,
+    acts: usize,
     body: Rows<Instr>,
     extent: Extent,
 }
@@ -86,8 +88,14 @@ impl Codes {
     {
         let Code { head, body } = code;
         let extent = Extent::of(body.as_slice());
+        let acts = end_of_actions(head.as_slice());
         let head = self.pool.put_all(alloc, head)?;
-        self.codes.push(Numbered { head, body, extent })?;
+        self.codes.push(Numbered {
+            head,
+            acts,
+            body,
+            extent,
+        })?;
         Ok(())
     }
 
@@ -105,7 +113,7 @@ impl Codes {
     {
         let code = self.codes.at(rule as usize);
         CodeView::new(
-            Instrs::new(self.pool.instrs(), code.head.as_slice()),
+            Instrs::new(self.pool.instrs(), code.head.as_slice(), code.acts),
             Body::new(code.body.as_slice(), &code.extent),
         )
     }

@@ -1,5 +1,5 @@
 //! What is told of a code, by examples.
-ghost use Rattle.lmn_instr_pool.specs.Examples.{MakingBegins, RemovalsEnd};
+ghost use Rattle.lmn_instr_pool.specs.Examples.{ActionsEnd, MakingBegins, RemovalsEnd};
 
 /// In REMOVEATOM, PROCEED none takes something away from the place 1 on, and one does from 0 on.
 #[tactic(auto, using(crate::proofs::ExampleCodes::removals_end))]
@@ -11,4 +11,10 @@ pub fn removals_end()
 #[tactic(auto, using(crate::proofs::ExampleCodes::making_begins))]
 pub fn making_begins()
     ensures { MakingBegins }
+{}
+
+/// In NORULES, COMMIT none does anything from the place 1 on, and one does from 0 on.
+#[tactic(auto, using(crate::proofs::ExampleCodes::actions_end))]
+pub fn actions_end()
+    ensures { ActionsEnd }
 {}

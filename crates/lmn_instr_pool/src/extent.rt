@@ -1,6 +1,6 @@
 //! Where in a code instructions of some kinds stand.
 ghost use Rattle.std.specs.Prelude.{◌≤◌, length, IsFalse};
-ghost use Rattle.lmn_instr_pool.specs.Extents.{HasExtent, IsOf, Makes, NoneBefore, NoneFrom, Removes};
+ghost use Rattle.lmn_instr_pool.specs.Extents.{Acts, EndsAt, HasExtent, IsOf, Makes, NoneBefore, NoneFrom, Removes};
 
 use lmn_instr_code::Instr;
 
@@ -11,6 +11,8 @@ enum Kind {
     Removal,
     /// Those for which something is made before the code is run.
     Making,
+    /// All but COMMIT.
+    Action,
 }
 
 /// Where in a code the instructions stand that take something away, and those for which something is made.
@@ -35,6 +37,13 @@ impl Extent {
             last: end_of(instrs, Kind::Making),
         }
     }
+}
+
+/// A place at which and behind which all instructions are COMMIT.
+pub(crate) fn end_of_actions(instrs: &[Instr]) -> usize
+    ensures { EndsAt result instrs.now }
+{
+    end_of(instrs, Kind::Action)
 }
 
 /// Behind the last instruction of a kind, or 0.
@@ -71,6 +80,7 @@ fn is_of(kind: Kind, instr: &Instr) -> bool
     match kind {
         Kind::Removal => removes(instr),
         Kind::Making => makes(instr),
+        Kind::Action => acts(instr),
     }
 }
 
@@ -98,5 +108,15 @@ fn makes(instr: &Instr) -> bool
         Instr::CopyRules { .. } => true,
         Instr::CopyCells { .. } => true,
         _ => false,
+    }
+}
+
+/// Whether an instruction is none that only ends a head.
+fn acts(instr: &Instr) -> bool
+    ensures { IsFalse result → Acts instr.now → ⊥ }
+{
+    match instr {
+        Instr::Commit => false,
+        _ => true,
     }
 }

@@ -11,6 +11,6 @@ mod view;
 
 pub use body::Body;
 pub use codes::Codes;
-pub use examples::{making_begins, removals_end};
+pub use examples::{actions_end, making_begins, removals_end};
 pub use instrs::Instrs;
 pub use view::CodeView;

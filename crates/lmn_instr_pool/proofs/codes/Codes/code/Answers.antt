@@ -10,15 +10,20 @@ at-code-requires c =
     let r = c.requires in
     omega (arith, e, r)
 
-pub new-requires : goal.new-requires
-new-requires c =
+pub new-requires-clause-there : goal.new-requires-clause-there
+new-requires-clause-there c =
     let at = stored_at c.self.inside.pool c.self.inside.codes c.args.rule c.at-code.result.now c.self.invariant c.at-code.ensures in
     rw (c.instrs.ensures, c.as_slice.ensures) at.1
+
+pub new-requires-clause-end : goal.new-requires-clause-end
+new-requires-clause-end c =
+    let at = stored_at c.self.inside.pool c.self.inside.codes c.args.rule c.at-code.result.now c.self.invariant c.at-code.ensures in
+    rw (c.instrs.ensures, c.as_slice.ensures) at.2
 
 pub new-requires-2 : goal.new-requires-2
 new-requires-2 c =
     let at = stored_at c.self.inside.pool c.self.inside.codes c.args.rule c.at-code.result.now c.self.invariant c.at-code.ensures in
-    rw (c.as_slice-2.ensures) at.2
+    rw (c.as_slice-2.ensures) at.3
 
 pub returns : goal.returns
 returns c =
