@@ -140,18 +140,16 @@ fn take_next<S: LinkStore>(
     ensures listed { IsListed S.atom_id (S.heap store.new) set.now.listed }
 {
     let _root = store.root();
-    match instr {
-        Instr::RemoveAtom { atom } => {
-            store.take_atom(set.atoms.at(*atom as usize));
-            true
-        }
-        Instr::RemovePart { part } => {
-            let root = set.parts.at(*part as usize);
-            take_listed(store, root, &set.listed, trail);
-            true
-        }
-        _ => false,
+    if let Instr::RemoveAtom { atom } = instr {
+        store.take_atom(set.atoms.at(*atom as usize));
+        return true;
     }
+    if let Instr::RemovePart { part } = instr {
+        let root = set.parts.at(*part as usize);
+        take_listed(store, root, &set.listed, trail);
+        return true;
+    }
+    false
 }
 
 /// Does what the instructions do with which code begins, as long as they take atoms and parts. Answers the code behind them.
