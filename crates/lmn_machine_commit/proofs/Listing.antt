@@ -8,14 +8,7 @@ use Rattle.lmn_ground.specs.Listed.{IsListed}
 use Rattle.lmn_ground.specs.declared.listing.PartList.{PartList}
 use Rattle.lmn_ground.proofs.ListedLaws.{listed_kept, listed_on}
 use Rattle.lmn_ground.proofs.TakeLaws.{there_taken}
-use Rattle.lmn_instr_code.specs.declared.instr.Instr.{Instr}
-use Rattle.lmn_instr_code.specs.declared.instr.Instr.TheVariants.{CopyGround}
-use Rattle.lmn_machine_commit.specs.Preparing.{CopiesNone, OnlyMakes}
-
--- what is no COPYGROUND copies no part
-pub copies_none : (i : Instr) → ((x y z : ℕ) → i ≡ CopyGround x y z → ⊥) → CopiesNone i
-copies_none (CopyGround x y z) o = absurd (o x y z refl)
-copies_none _ o = tt
+use Rattle.lmn_machine_commit.specs.Preparing.{OnlyMakes}
 
 module _ {A : Type 0} (atom : A → ℕ) (list : PartList A) where
   -- a list stays right when more is made

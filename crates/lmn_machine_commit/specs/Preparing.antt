@@ -1,5 +1,5 @@
 -- What it means that the code of a body is prepared.
-use Rattle.std.specs.Prelude.{ℕ, ◌≡◌, ◌<◌, ◌≤◌, ◌+◌, ◌⊎◌, ◌==◌, if◌then◌else◌, List, [], ◌∷◌, ◌++◌, Option, None, Some, IsSome, length, map, slice_get}
+use Rattle.std.specs.Prelude.{ℕ, ◌≡◌, ◌<◌, ◌≤◌, ◌+◌, ◌⊎◌, ◌==◌, if◌then◌else◌, List, [], ◌∷◌, ◌++◌, Option, None, Some, IsSome, length, slice_get}
 use Rattle.lmn_base.specs.declared.functor.Functor.{Functor}
 use Rattle.lmn_base.specs.Graphs.{Reached}
 use Rattle.lmn_store_heap.specs.Graphs.{atom_map}
@@ -113,11 +113,6 @@ KeepsCount (NewMem m n) = ⊥
 KeepsCount (LoadRule m k) = ⊥
 KeepsCount (CopyRules m n) = ⊥
 KeepsCount _ = Unit {0}
-
--- an instruction copies no part
-abbrev pub CopiesNone : Instr → Type 0
-CopiesNone (CopyGround x y z) = ⊥
-CopiesNone _ = Unit {0}
 
 -- ---- what a match must hold, and what is prepared
 

@@ -6,7 +6,7 @@ ghost use Rattle.lmn_ground.specs.Listed.{IsListed};
 ghost use Rattle.lmn_solid_bodies.specs.Running.{Registers};
 ghost use Rattle.lmn_solid_bodies.specs.Stopping.{SameButSpares};
 ghost use Rattle.lmn_machine_commit.specs.Registers.{AgreesWithCopies, AreHeld};
-ghost use Rattle.lmn_machine_commit.specs.Preparing.{AddsSo, AllUse, AreAtHome, AtomIsMade, CanBeCopied, CanCopy, CanCopyRest, CanPrepare, CopiesNone, CopyIsMade, HasClosedRest, RestIsMade, MembraneIsMade, OnlyMakes, IsCounted, IsMade, KeepsCount, Prepared, UsesInOrder, Uses, needed, needed_by};
+ghost use Rattle.lmn_machine_commit.specs.Preparing.{AddsSo, AllUse, AreAtHome, AtomIsMade, CanBeCopied, CanCopy, CanCopyRest, CanPrepare, CopyIsMade, HasClosedRest, RestIsMade, MembraneIsMade, OnlyMakes, IsCounted, IsMade, Prepared, UsesInOrder, Uses, atoms_made, needed, needed_by};
 ghost use Rattle.lmn_machine_registers.specs.declared.stack.TheConstants.{ROOM};
 ghost use Rattle.lmn_instr_code.specs.declared.instr.Instr.{Instr};
 
@@ -106,11 +106,20 @@ fn rules_added<S: LinkStore>(
     }
 }
 
+/// The instruction at a place of code.
+#[inline(always)]
+fn instr_at(code: &[Instr], i: usize) -> &Instr
+    requires { i < length code.now }
+    ensures { slice_get code.now i ≡ Some result.now }
+{
+    &code[i]
+}
+
 /// How many rules the first instructions of code add to a membrane; none where that is too many for any store.
 /// No table is wanted: they are counted anew only where an instruction adds rules to another membrane than the one before.
 fn rules_needed<S: LinkStore>(
     store: &S,
-    code: &Body<'_>,
+    code: &[Instr],
     upto: usize,
     set: &SetRegisters<S::Atom, S::Mem>,
     membrane: S::Mem,
@@ -123,7 +132,7 @@ fn rules_needed<S: LinkStore>(
 {
     let mut count: u64 = 0;
     for i in 0..upto {
-        count = count.checked_add(rules_added(store, code.at(i), set, membrane))?;
+        count = count.checked_add(rules_added(store, instr_at(code, i), set, membrane))?;
     }
     Some(count)
 }
@@ -138,7 +147,7 @@ struct Counted {
 /// How many rules the code before a place adds to a membrane. What was counted for its register isn't counted again.
 fn count_before<S: LinkStore>(
     store: &S,
-    code: &Body<'_>,
+    code: &[Instr],
     at: usize,
     set: &SetRegisters<S::Atom, S::Mem>,
     to: usize,
@@ -207,7 +216,7 @@ fn copy_rest<S: LinkStore>(
 fn make_room<S: LinkStore>(
     alloc: Global,
     store: &mut S,
-    code: &Body<'_>,
+    code: &[Instr],
     at: usize,
     instr: &Instr,
     to: usize,
@@ -224,7 +233,6 @@ fn make_room<S: LinkStore>(
     ensures counted { IfOk result (λ next. IsCounted S.atom_id S.mem_id (S.heap store.new) set.now (take (at + 1) code.now) next.register next.count) }
     ensures makes { OnlyMakes (S.heap store.old) (S.heap store.new) }
 {
-    let _code = code.len();
     let membrane = set.membranes.at(to);
     let before = count_before(store, code, at, set, to, membrane, counted)?;
     let added = rules_added(store, instr, set, membrane);
@@ -240,56 +248,20 @@ fn make_room<S: LinkStore>(
     }
 }
 
-/// Makes what an instruction makes that makes no membrane, copies no part and adds no rules.
-#[inline(always)]
-fn make<S: LinkStore>(
+/// Makes what the instruction at a place of the code makes, if it makes no atom by itself, and tells what is counted then. A membrane that is
+/// made has no rules yet. It is a call of its own, and takes the code as a slice: so where atoms alone are made nothing is handed over.
+#[inline(never)]
+fn make_other<S: LinkStore>(
     alloc: Global,
     store: &mut S,
+    code: &[Instr],
+    at: usize,
     instr: &Instr,
+    counted: &mut Counted,
     set: &mut SetRegisters<S::Atom, S::Mem>,
     trail: &mut Found<S::Atom>,
 ) -> Result<(), NoMemory>
-    requires keeps { KeepsCount instr.now }
-    requires copies { CopiesNone instr.now }
-    requires held { AreHeld S.atom_id S.mem_id (S.heap store.old) set.old }
-    requires reads { UsesInOrder (length set.old.atoms) (length set.old.membranes) (length set.old.parts) (length set.old.integers) (length set.old.copies) instr.now }
-    requires unmarked { Unmarked (S.heap store.old) }
-    requires parts { CanCopy S.atom_id (S.heap store.old) set.old }
-    requires homes { AreAtHome S.atom_id (S.heap store.old) set.old.parts }
-    requires rest { CanCopyRest S.atom_id S.mem_id (S.heap store.old) set.old instr.now }
-    ensures ok { (before : List Instr) → OnOk result (IsMade S.atom_id S.mem_id (S.heap store.old) (S.heap store.new) set.old set.new before instr.now) }
-    ensures makes { OnlyMakes (S.heap store.old) (S.heap store.new) }
-{
-    match instr {
-        Instr::NewAtom { functor, .. } => make_atom(alloc, store, *functor, set),
-        Instr::NewInt { integer, .. } => {
-            let functor = Functor {
-                label: Label::Int(set.integers.at(*integer as usize)),
-                arity: 1,
-            };
-            make_atom(alloc, store, functor, set)
-        }
-        Instr::CopyCells { from, .. } => {
-            let from = set.membranes.at(*from as usize);
-            copy_rest(alloc, store, set, from, trail)
-        }
-        _ => Ok(()),
-    }
-}
-
-/// Makes what the instruction at a place of the code makes, and answers what is counted then. `counted` is what was counted before. A
-/// membrane that is made has no rules yet.
-#[inline(always)]
-fn make_next<S: LinkStore>(
-    alloc: Global,
-    store: &mut S,
-    code: &Body<'_>,
-    at: usize,
-    instr: &Instr,
-    counted: Counted,
-    set: &mut SetRegisters<S::Atom, S::Mem>,
-    trail: &mut Found<S::Atom>,
-) -> Result<Counted, NoMemory>
+    requires other { atoms_made instr.now ≡ 0 }
     requires at { slice_get code.now at ≡ Some instr.now }
     requires held { AreHeld S.atom_id S.mem_id (S.heap store.old) set.old }
     requires uses { AllUse (length set.old.atoms) (length set.old.membranes) (length set.old.parts) (length set.old.copies) (take at code.now) }
@@ -298,46 +270,97 @@ fn make_next<S: LinkStore>(
     requires parts { CanCopy S.atom_id (S.heap store.old) set.old }
     requires homes { AreAtHome S.atom_id (S.heap store.old) set.old.parts }
     requires rest { CanCopyRest S.atom_id S.mem_id (S.heap store.old) set.old instr.now }
-    requires counted { IsCounted S.atom_id S.mem_id (S.heap store.old) set.old (take at code.now) counted.register counted.count }
+    requires counted { IsCounted S.atom_id S.mem_id (S.heap store.old) set.old (take at code.now) counted.old.register counted.old.count }
     ensures ok { OnOk result (IsMade S.atom_id S.mem_id (S.heap store.old) (S.heap store.new) set.old set.new (take at code.now) instr.now) }
-    ensures counted { IfOk result (λ next. IsCounted S.atom_id S.mem_id (S.heap store.new) set.new (take (at + 1) code.now) next.register next.count) }
+    ensures counted { OnOk result (IsCounted S.atom_id S.mem_id (S.heap store.new) set.new (take (at + 1) code.now) counted.new.register counted.new.count) }
     ensures makes { OnlyMakes (S.heap store.old) (S.heap store.new) }
 {
     match instr {
         Instr::LoadRule { membrane, .. } => {
-            make_room(
+            *counted = make_room(
                 alloc,
                 store,
                 code,
                 at,
                 instr,
                 *membrane as usize,
-                counted,
+                *counted,
                 set,
-            )
+            )?;
+            Ok(())
         }
         Instr::CopyRules { to, .. } => {
-            make_room(alloc, store, code, at, instr, *to as usize, counted, set)
+            *counted = make_room(alloc, store, code, at, instr, *to as usize, *counted, set)?;
+            Ok(())
         }
         Instr::NewMem { membrane, .. } => {
             make_membrane(alloc, store, set)?;
-            Ok(Counted {
+            *counted = Counted {
                 register: *membrane as usize,
                 count: 0,
-            })
+            };
+            Ok(())
         }
         Instr::CopyGround { part, .. } => {
-            let _code = code.len();
             let root = set.parts.at(*part as usize);
             make_copy(alloc, store, root, set)?;
-            Ok(counted)
+            Ok(())
         }
-        _ => {
-            let _root = store.root();
-            make(alloc, store, instr, set, trail)?;
-            Ok(counted)
+        Instr::CopyCells { from, .. } => {
+            let from = set.membranes.at(*from as usize);
+            copy_rest(alloc, store, set, from, trail)?;
+            Ok(())
         }
+        _ => Ok(()),
     }
+}
+
+/// Makes what the instruction at a place of the code makes, and tells what is counted then. Most make an atom, and these are asked for first:
+/// what is counted stays then.
+#[inline(always)]
+fn make_next<S: LinkStore>(
+    alloc: Global,
+    store: &mut S,
+    code: &Body<'_>,
+    at: usize,
+    instr: &Instr,
+    counted: &mut Counted,
+    set: &mut SetRegisters<S::Atom, S::Mem>,
+    trail: &mut Found<S::Atom>,
+) -> Result<(), NoMemory>
+    requires at { slice_get code.now at ≡ Some instr.now }
+    requires held { AreHeld S.atom_id S.mem_id (S.heap store.old) set.old }
+    requires uses { AllUse (length set.old.atoms) (length set.old.membranes) (length set.old.parts) (length set.old.copies) (take at code.now) }
+    requires reads { UsesInOrder (length set.old.atoms) (length set.old.membranes) (length set.old.parts) (length set.old.integers) (length set.old.copies) instr.now }
+    requires unmarked { Unmarked (S.heap store.old) }
+    requires parts { CanCopy S.atom_id (S.heap store.old) set.old }
+    requires homes { AreAtHome S.atom_id (S.heap store.old) set.old.parts }
+    requires rest { CanCopyRest S.atom_id S.mem_id (S.heap store.old) set.old instr.now }
+    requires counted { IsCounted S.atom_id S.mem_id (S.heap store.old) set.old (take at code.now) counted.old.register counted.old.count }
+    ensures ok { OnOk result (IsMade S.atom_id S.mem_id (S.heap store.old) (S.heap store.new) set.old set.new (take at code.now) instr.now) }
+    ensures counted { OnOk result (IsCounted S.atom_id S.mem_id (S.heap store.new) set.new (take (at + 1) code.now) counted.new.register counted.new.count) }
+    ensures makes { OnlyMakes (S.heap store.old) (S.heap store.new) }
+{
+    if let Instr::NewAtom { functor, .. } = instr {
+        return make_atom(alloc, store, *functor, set);
+    }
+    if let Instr::NewInt { integer, .. } = instr {
+        let functor = Functor {
+            label: Label::Int(set.integers.at(*integer as usize)),
+            arity: 1,
+        };
+        return make_atom(alloc, store, functor, set);
+    }
+    make_other(
+        alloc,
+        store,
+        code.as_slice(),
+        at,
+        instr,
+        counted,
+        set,
+        trail,
+    )
 }
 
 /// Makes what code makes, one instruction after the other.
@@ -362,7 +385,7 @@ fn make_all<S: LinkStore>(
     };
     for i in first..last {
         let instr = code.at(i);
-        counted = make_next(alloc, store, code, i, instr, counted, set, trail)?;
+        make_next(alloc, store, code, i, instr, &mut counted, set, trail)?;
     }
     Ok(())
 }

@@ -56,8 +56,8 @@ make_next-requires-clause-homes g c = still_at_home g.S.LinkStore.atom_id g.S.Li
 pub make_next-requires-clause-rest : goal.make_next-requires-clause-rest
 make_next-requires-clause-rest g c = still_copied_rests g.S.LinkStore.atom_id g.S.LinkStore.mem_id (g.S.LinkStore.heap c.args.store.now) (g.S.LinkStore.heap c.loop-i.store) c.requires.valid c.loop-i.invariant.done.makes (c.loop-i.invariant.done.makes.rest (g.S.LinkStore.heap c.args.store.now) (itself (g.S.LinkStore.heap c.args.store.now) c.requires.valid).1) c.args.set.now c.loop-i.set c.loop-i.invariant.done.grows c.loop-i.invariant.apart c.requires.can.parts c.requires.can.held c.args.code.now c.loop-i.i c.at-instr.result.now c.at-instr.ensures c.requires.can.rests
 
-pub returns-in_err-counted-clause-makes : goal.returns-in_err-counted-clause-makes
-returns-in_err-counted-clause-makes g c = makes_on (g.S.LinkStore.heap c.args.store.now) (g.S.LinkStore.heap c.loop-i.store) (g.S.LinkStore.heap c.make_next.new.store) c.loop-i.invariant.done.makes c.make_next.ensures.makes
+pub returns-in_err-make_next-clause-makes : goal.returns-in_err-make_next-clause-makes
+returns-in_err-make_next-clause-makes g c = makes_on (g.S.LinkStore.heap c.args.store.now) (g.S.LinkStore.heap c.loop-i.store) (g.S.LinkStore.heap c.make_next.new.store) c.loop-i.invariant.done.makes c.make_next.ensures.makes
 
 pub loop-i-preserved : goal.loop-i-preserved
 loop-i-preserved g c =
@@ -65,7 +65,7 @@ loop-i-preserved g c =
     let ahead = drop_get c.loop-i.i c.args.code.now c.at-instr.result.now here in
     let order : BodyInOrder (length c.loop-i.set.atoms) (length c.loop-i.set.membranes) (length c.loop-i.set.parts) (length c.loop-i.set.integers) (length c.loop-i.set.copies) (c.at-instr.result.now ∷ drop (c.loop-i.i + 1) c.args.code.now) =
     subst (λ is. BodyInOrder (length c.loop-i.set.atoms) (length c.loop-i.set.membranes) (length c.loop-i.set.parts) (length c.loop-i.set.integers) (length c.loop-i.set.copies) is) ahead c.loop-i.invariant.order in
-    let made = c.in_ok-counted.ensures.ok in
+    let made = c.in_ok-make_next.ensures.ok in
     record {
       done = subst (λ is. Prepared g.S.LinkStore.atom_id g.S.LinkStore.mem_id (g.S.LinkStore.heap c.args.store.now) (g.S.LinkStore.heap c.make_next.new.store) c.args.set.now c.make_next.new.set is) (sym (take_get c.loop-i.i c.args.code.now c.at-instr.result.now here))
           (prepared_more g.S.LinkStore.atom_id g.S.LinkStore.mem_id (g.S.LinkStore.heap c.args.store.now) (g.S.LinkStore.heap c.loop-i.store) (g.S.LinkStore.heap c.make_next.new.store) c.args.set.now c.loop-i.set c.make_next.new.set (take c.loop-i.i c.args.code.now) c.at-instr.result.now (length c.loop-i.set.integers)
@@ -74,7 +74,7 @@ loop-i-preserved g c =
       apart = apart_more g.S.LinkStore.atom_id g.S.LinkStore.mem_id (g.S.LinkStore.heap c.args.store.now) (g.S.LinkStore.heap c.loop-i.store) c.requires.valid c.loop-i.invariant.done.makes (c.loop-i.invariant.done.makes.rest (g.S.LinkStore.heap c.args.store.now) (itself (g.S.LinkStore.heap c.args.store.now) c.requires.valid).1) c.args.set.now c.loop-i.set c.loop-i.invariant.done.grows c.loop-i.invariant.apart c.requires.can.parts c.make_next.new.set made.new_atoms made.new_membranes;
       order = in_order_next g.S.LinkStore.atom_id g.S.LinkStore.mem_id c.loop-i.set c.make_next.new.set c.at-instr.result.now (drop (c.loop-i.i + 1) c.args.code.now) made.atoms made.membranes made.grows.parts made.grows.integers made.copies order;
       within = (let before = c.loop-i-test.true in let few = c.last_made-last.ensures.within in omega (arith, before, few));
-      counted = c.in_ok-counted.ensures.counted;
+      counted = c.in_ok-make_next.ensures.counted;
     }
 
 pub returns-clause-ok : goal.returns-clause-ok
