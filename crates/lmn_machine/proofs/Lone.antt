@@ -12,7 +12,7 @@ use Rattle.lmn_store_heap.specs.Heap.{Heap, IsAtom, functor_of, link_of, partner
 use Rattle.lmn_store_heap.specs.Sound.{Sound}
 use Rattle.lmn_store_heap.specs.Graphs.{atom_map}
 use Rattle.lmn_guards.specs.declared.plan.TypeKind.TheVariants as kind
-use Rattle.lmn_solid_heads.specs.Guards.{integer_at, integer_by, integer_of_functor, IsUnaryPart}
+use Rattle.lmn_solid_heads.specs.Guards.{integer_at, integer_by, integer_of_functor, IsOfKindAt, IsUnaryPart}
 use Rattle.lmn_instr_code.specs.declared.instr.AtomPort.{AtomPort}
 use Rattle.lmn_instr_code.specs.declared.instr.Instr.{Instr}
 use Rattle.lmn_instr_code.specs.declared.instr.Instr.TheVariants.{IsInt, IsUnary}
@@ -118,7 +118,7 @@ module _ {A M : Type 0} (atom : A → ℕ) (membrane : M → ℕ) (h : Heap) whe
       get_there (x ∷ xs) zero l = (x, refl)
       get_there (x ∷ xs) (suc j) l = get_there xs j (omega (arith, l))
 
-  integer_unary : (q : ℕ × ℕ) (z : ℤ) → integer_at h q ≡ Some z → IsUnaryPart h q
+  pub integer_unary : (q : ℕ × ℕ) (z : ℤ) → integer_at h q ≡ Some z → IsUnaryPart h q
   integer_unary q z e = by_functor (functor_of h q.0) z e
     where
       with_arity : (l : Label) (n : ℕ) (z : ℤ) → integer_by l n ≡ Some z → n ≡ 1
@@ -205,16 +205,11 @@ module _ {A M : Type 0} (atom : A → ℕ) (membrane : M → ℕ) (h : Heap) whe
       }
 
   -- an atom alone is a part that stands whole and apart
-  lone_known : Sound h → (g : SetRegisters A M) (a : A) (port : ℕ) (m : M) (o : Option (A × ℕ)) → IsEndWith atom h (λ q. IsLone atom h g.atoms (membrane m) q.0) (atom a) port o → FoundFrom g a port (membrane m) o
-  lone_known sound g a port m o t q e =
-      let l = t.ends q e in
-      let k = t.holds q e in (
-        l,
-        record {
-          whole = lone_whole h sound (atom a, port) q (membrane m) k.unary l k.home;
-          apart = λ b r. record { differ = λ j x u d. k.apart.differ j x u (d ∙ only_root h sound q b k.unary (root_port h sound (atom a, port) q k.unary l) r) };
-        },
-      )
+  lone_known : Sound h → (g : SetRegisters A M) (a : A) (port : ℕ) (m : M) (q : ℕ × ℕ) → link_of h (atom a) port ≡ Some q → IsLone atom h g.atoms (membrane m) q.0 → IsWholeApart atom h g.atoms (membrane m) q
+  lone_known sound g a port m q l k = record {
+    whole = lone_whole h sound (atom a, port) q (membrane m) k.unary l k.home;
+    apart = λ b r. record { differ = λ j x u d. k.apart.differ j x u (d ∙ only_root h sound q b k.unary (root_port h sound (atom a, port) q k.unary l) r) };
+  }
 
   unary_gives : Sound h → (g : SetRegisters A M) (p : AtomPort) (y : ℕ) (a : A) (m : M) (o : Option (A × ℕ)) → slice_get g.atoms p.atom ≡ Some a → slice_get g.membranes y ≡ Some m → IsEndWith atom h (λ q. IsLone atom h g.atoms (membrane m) q.0) (atom a) p.port o →
       GivesPart g (IsUnary (length g.parts) p y) o
@@ -224,17 +219,14 @@ module _ {A M : Type 0} (atom : A → ℕ) (membrane : M → ℕ) (h : Heap) whe
         (subst (λ j. link_of h j p.port ≡ Some (s.images.part (length g.parts))) (sym (r.atoms p.atom a from)) (t.ends (s.images.part (length g.parts)) e)) (t.holds (s.images.part (length g.parts)) e),
   )
 
-  pub record IntegerRoot (end root : Option (A × ℕ)) : Type 0 where
-    pub is_end : (q : ℕ × ℕ) → option_map (port_id atom) root ≡ Some q → option_map (port_id atom) end ≡ Some q
-    pub integer : (q : ℕ × ℕ) → option_map (port_id atom) root ≡ Some q → (z : ℤ) × (integer_at h q ≡ Some z)
-    pub only : (q : ℕ × ℕ) (z : ℤ) → option_map (port_id atom) end ≡ Some q → integer_at h q ≡ Some z → option_map (port_id atom) root ≡ Some q
-
-  int_gives : Sound h → (g : SetRegisters A M) (p : AtomPort) (y : ℕ) (a : A) (m : M) (end o : Option (A × ℕ)) → slice_get g.atoms p.atom ≡ Some a → slice_get g.membranes y ≡ Some m → IsEndWith atom h (λ q. IsLone atom h g.atoms (membrane m) q.0) (atom a) p.port end →
-      IntegerRoot end o → GivesPart g (IsInt (length g.parts) p y) o
-  int_gives sound g p y a m end o from place t i = λ c s n r. (
-    λ k. i.only (s.images.part (length g.parts)) k.of_kind.0 ((unary_gives sound g p y a m end from place t c s n r).0 (int_to_unary atom membrane h c.atoms (length g.parts) y s p k)) k.of_kind.1,
-    λ e. (let z = i.integer (s.images.part (length g.parts)) e in
-        unary_to_int atom membrane h c.atoms (length g.parts) y s p z.0 ((unary_gives sound g p y a m end from place t c s n r).1 (i.is_end (s.images.part (length g.parts)) e)) z.1),
+  int_gives : Sound h → (g : SetRegisters A M) (p : AtomPort) (y : ℕ) (a : A) (m : M) (o : Option (A × ℕ)) → slice_get g.atoms p.atom ≡ Some a → slice_get g.membranes y ≡ Some m →
+      IsEndWith atom h (λ q. IsLone atom h g.atoms (membrane m) q.0 × IsOfKindAt h kind.Int q) (atom a) p.port o → GivesPart g (IsInt (length g.parts) p y) o
+  int_gives sound g p y a m o from place t = λ c s n r. (
+    λ k. t.only (s.images.part (length g.parts)) (subst (λ j. link_of h j p.port ≡ Some (s.images.part (length g.parts))) (r.atoms p.atom a from) k.held)
+        (from_context atom membrane h g c.atoms (length g.parts) y s p m n r place (int_to_unary atom membrane h c.atoms (length g.parts) y s p k), k.of_kind),
+    λ e. (let q = t.holds (s.images.part (length g.parts)) e in
+        unary_to_int atom membrane h c.atoms (length g.parts) y s p q.1.0 (to_context atom membrane h sound g c.atoms (length g.parts) y s p m n r place
+        (subst (λ j. link_of h j p.port ≡ Some (s.images.part (length g.parts))) (sym (r.atoms p.atom a from)) (t.ends (s.images.part (length g.parts)) e)) q.0) q.1.1),
   )
 
   pub unary_stepped : Sound h → (g k : SetRegisters A M) (result : Bool) (i : Instr) (x : ℕ) (p : AtomPort) (y : ℕ) (a : A) (m : M) (o : Option (A × ℕ)) → i ≡ IsUnary x p y → HeadInOrder (length g.atoms) (length g.membranes) (length g.parts) (length g.integers) (i ∷ []) → AreHeldWhole atom membrane h g →
@@ -242,11 +234,11 @@ module _ {A M : Type 0} (atom : A → ℕ) (membrane : M → ℕ) (h : Heap) whe
   unary_stepped sound g k result i x p y a m o e order held from place t given =
       let u : HeadInOrder (length g.atoms) (length g.membranes) (length g.parts) (length g.integers) (IsUnary x p y ∷ []) = subst (λ j. HeadInOrder (length g.atoms) (length g.membranes) (length g.parts) (length g.integers) (j ∷ [])) e order in
       subst (λ j. Stepped atom membrane h g k result j) (sym (e ∙ ap (λ j. IsUnary j p y) u.0.0.0.0))
-      (part_stepped sound g k result (IsUnary (length g.parts) p y) p.atom a p.port (membrane m) o from (lone_known sound g a p.port m o t) held t.there (λ is w. w.1) (λ c w. w) (refl, refl, refl, refl) (unary_gives sound g p y a m o from place t) given)
+      (part_stepped sound g k result (IsUnary (length g.parts) p y) p.atom a p.port (membrane m) o from (λ q e. (t.ends q e, lone_known sound g a p.port m q (t.ends q e) (t.holds q e))) held t.there (λ is w. w.1) (λ c w. w) (refl, refl, refl, refl) (unary_gives sound g p y a m o from place t) given)
 
-  pub int_stepped : Sound h → (g k : SetRegisters A M) (result : Bool) (i : Instr) (x : ℕ) (p : AtomPort) (y : ℕ) (a : A) (m : M) (end o : Option (A × ℕ)) → i ≡ IsInt x p y → HeadInOrder (length g.atoms) (length g.membranes) (length g.parts) (length g.integers) (i ∷ []) → AreHeldWhole atom membrane h g →
-      slice_get g.atoms p.atom ≡ Some a → slice_get g.membranes y ≡ Some m → IfSome o (λ p. IsAtom h (atom p.0)) → IsEndWith atom h (λ q. IsLone atom h g.atoms (membrane m) q.0) (atom a) p.port end → IntegerRoot end o → HasGivenPart g k result o → Stepped atom membrane h g k result i
-  int_stepped sound g k result i x p y a m end o e order held from place there t root given =
+  pub int_stepped : Sound h → (g k : SetRegisters A M) (result : Bool) (i : Instr) (x : ℕ) (p : AtomPort) (y : ℕ) (a : A) (m : M) (o : Option (A × ℕ)) → i ≡ IsInt x p y → HeadInOrder (length g.atoms) (length g.membranes) (length g.parts) (length g.integers) (i ∷ []) → AreHeldWhole atom membrane h g →
+      slice_get g.atoms p.atom ≡ Some a → slice_get g.membranes y ≡ Some m → IsEndWith atom h (λ q. IsLone atom h g.atoms (membrane m) q.0 × IsOfKindAt h kind.Int q) (atom a) p.port o → HasGivenPart g k result o → Stepped atom membrane h g k result i
+  int_stepped sound g k result i x p y a m o e order held from place t given =
       let u : HeadInOrder (length g.atoms) (length g.membranes) (length g.parts) (length g.integers) (IsInt x p y ∷ []) = subst (λ j. HeadInOrder (length g.atoms) (length g.membranes) (length g.parts) (length g.integers) (j ∷ [])) e order in
       subst (λ j. Stepped atom membrane h g k result j) (sym (e ∙ ap (λ j. IsInt j p y) u.0.0.0.0))
-      (part_stepped sound g k result (IsInt (length g.parts) p y) p.atom a p.port (membrane m) o from (λ q u. lone_known sound g a p.port m end t q (root.is_end q u)) held there (λ is w. w.1) (λ c w. w) (refl, refl, refl, refl) (int_gives sound g p y a m end o from place t root) given)
+      (part_stepped sound g k result (IsInt (length g.parts) p y) p.atom a p.port (membrane m) o from (λ q e. (t.ends q e, lone_known sound g a p.port m q (t.ends q e) (t.holds q e).0)) held t.there (λ is w. w.1) (λ c w. w) (refl, refl, refl, refl) (int_gives sound g p y a m o from place t) given)

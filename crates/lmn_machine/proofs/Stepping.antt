@@ -12,7 +12,7 @@ use Rattle.lmn_instr_code.specs.Running.{HeadRegisters, HeadSize, InstructionHol
 use Rattle.lmn_machine_registers.specs.declared.registers.SetRegisters.{SetRegisters}
 use Rattle.lmn_machine_registers.specs.Agreeing.{Agrees}
 use Rattle.lmn_machine.specs.Searching.{AreHeldWhole, Compares, Extends, SetsAll, AllSet, TestsSetRegisters, Searched, Stepped, ChoosesNone, HeadInOrder, SetsMore, parts_set, integers_set}
-use Rattle.lmn_machine.specs.Outcomes.{ComparesIntegers, ComputesInteger, FindsPart, ReadsParts, TestsAtoms, TestsMembranes}
+use Rattle.lmn_machine.specs.Outcomes.{ComparesIntegers}
 use Rattle.lmn_base.proofs.Lists.{take_whole as take_all}
 
 -- tests set no register
@@ -81,75 +81,7 @@ left_over (Ne x y) a m g v o h0 h1 h2 h3 h4 h5 h6 h7 h8 h9 h10 h11 h12 h13 h14 h
 left_over Commit a m g v o h0 h1 h2 h3 h4 h5 h6 h7 h8 h9 h10 h11 h12 h13 h14 h15 h16 h17 h18 h19 h20 h21 h22 h23 h24 = tt
 left_over _ a m g v o h0 h1 h2 h3 h4 h5 h6 h7 h8 h9 h10 h11 h12 h13 h14 h15 h16 h17 h18 h19 h20 h21 h22 h23 h24 = absurd o.0
 
--- a test of atoms is one of four
-pub atom_test : (i : Instr) → TestsAtoms i → ((x : ℕ) (f : Functor) → i ≡ Func x f → ⊥) → ((x y : ℕ) → i ≡ InMem x y → ⊥) → ((x y : ℕ) → i ≡ NeqAtom x y → ⊥) → ((p q : AtomPort) → i ≡ Joined p q → ⊥) → ⊥
-atom_test (Func x f) t b c d e = b x f refl
-atom_test (InMem x y) t b c d e = c x y refl
-atom_test (NeqAtom x y) t b c d e = d x y refl
-atom_test (Joined p q) t b c d e = e p q refl
-atom_test _ t b c d e = t
-
--- and so is a test of membranes
-pub membrane_test : (i : Instr) → TestsMembranes i → ((x y : ℕ) → i ≡ NeqMem x y → ⊥) → ((x n : ℕ) → i ≡ NMems x n → ⊥) → ((x : ℕ) → i ≡ NoRules x → ⊥) → ((p : AtomPort) (x : ℕ) → i ≡ NotIn p x → ⊥) → ⊥
-membrane_test (NeqMem x y) t b c d e = b x y refl
-membrane_test (NMems x n) t b c d e = c x n refl
-membrane_test (NoRules x) t b c d e = d x refl
-membrane_test (NotIn p x) t b c d e = e p x refl
-membrane_test _ t b c d e = t
-
--- what looks for a typed context is one of three
-pub part_finding : (i : Instr) → FindsPart i → ((x : ℕ) (p : AtomPort) (y : ℕ) → i ≡ IsInt x p y → ⊥) → ((x : ℕ) (p : AtomPort) (y : ℕ) → i ≡ IsUnary x p y → ⊥) → ((x : ℕ) (p : AtomPort) (y : ℕ) → i ≡ IsGround x p y → ⊥) → ⊥
-part_finding (IsInt x p y) t b c d = b x p y refl
-part_finding (IsUnary x p y) t b c d = c x p y refl
-part_finding (IsGround x p y) t b c d = d x p y refl
-part_finding _ t b c d = t
-
--- what reads typed contexts is one of five
-pub part_reading : (i : Instr) → ReadsParts i → ((x y : ℕ) → i ≡ EqGround x y → ⊥) → ((x y : ℕ) → i ≡ NeqGround x y → ⊥) → ((x n : ℕ) (gs : List ℕ) → i ≡ NAtoms x n gs → ⊥) → ((x : ℕ) (gs : List ℕ) → i ≡ IsClosed x gs → ⊥) →
-    ((x y : ℕ) → i ≡ GetInt x y → ⊥) → ⊥
-part_reading (EqGround x y) t b c d e f = b x y refl
-part_reading (NeqGround x y) t b c d e f = c x y refl
-part_reading (NAtoms x n gs) t b c d e f = d x n gs refl
-part_reading (IsClosed x gs) t b c d e f = e x gs refl
-part_reading (GetInt x y) t b c d e f = f x y refl
-part_reading _ t b c d e f = t
-
--- what computes an integer is one of six
-pub computation : (i : Instr) → ComputesInteger i → ((x : ℕ) (z : ℤ) → i ≡ Const x z → ⊥) → ((x y z : ℕ) → i ≡ Add x y z → ⊥) → ((x y z : ℕ) → i ≡ Sub x y z → ⊥) → ((x y z : ℕ) → i ≡ Mul x y z → ⊥) → ((x y z : ℕ) → i ≡ Div x y z → ⊥) →
-    ((x y z : ℕ) → i ≡ Mod x y z → ⊥) → ⊥
-computation (Const x z) t b c d e f k = b x z refl
-computation (Add x y z) t b c d e f k = c x y z refl
-computation (Sub x y z) t b c d e f k = d x y z refl
-computation (Mul x y z) t b c d e f k = e x y z refl
-computation (Div x y z) t b c d e f k = f x y z refl
-computation (Mod x y z) t b c d e f k = k x y z refl
-computation _ t b c d e f k = t
-
--- the parts that NATOMS lists are set
-pub listed_besides : (i : Instr) (a m g v x n : ℕ) (gs xs : List ℕ) → i ≡ NAtoms x n gs → xs ≡ gs → HeadInOrder a m g v (i ∷ []) → AllByRecursion (λ k. k < g) xs
-listed_besides i a m g v x n gs xs e same o = let u : HeadInOrder a m g v (NAtoms x n gs ∷ []) = subst (λ j. HeadInOrder a m g v (j ∷ [])) e o in subst (λ ks. AllByRecursion (λ k. k < g) ks) (sym same) u.0.1
-
--- and so are those that ISCLOSED lists
-pub listed_in_rest : (i : Instr) (a m g v x : ℕ) (gs xs : List ℕ) → i ≡ IsClosed x gs → xs ≡ gs → HeadInOrder a m g v (i ∷ []) → AllByRecursion (λ k. k < g) xs
-listed_in_rest i a m g v x gs xs e same o = let u : HeadInOrder a m g v (IsClosed x gs ∷ []) = subst (λ j. HeadInOrder a m g v (j ∷ [])) e o in subst (λ ks. AllByRecursion (λ k. k < g) ks) (sym same) u.0.1
-
--- a test of atoms, in order, reads registers that are set
-pub atom_test_reads : (i : Instr) (a m g v : ℕ) → TestsAtoms i → HeadInOrder a m g v (i ∷ []) → TestsSetRegisters a m v i
-atom_test_reads (Func x f) a m g v t o = o.0
-atom_test_reads (InMem x y) a m g v t o = o.0
-atom_test_reads (NeqAtom x y) a m g v t o = o.0
-atom_test_reads (Joined p q) a m g v t o = o.0
-atom_test_reads _ a m g v t o = absurd t
-
--- likewise a test of membranes
-pub membrane_test_reads : (i : Instr) (a m g v : ℕ) → TestsMembranes i → HeadInOrder a m g v (i ∷ []) → TestsSetRegisters a m v i
-membrane_test_reads (NeqMem x y) a m g v t o = o.0
-membrane_test_reads (NMems x n) a m g v t o = o.0
-membrane_test_reads (NoRules x) a m g v t o = o.0
-membrane_test_reads (NotIn p x) a m g v t o = o.0
-membrane_test_reads _ a m g v t o = absurd t
-
--- likewise a comparison
+-- a comparison, in order, reads registers that are set
 pub comparison_reads : (i : Instr) (a m g v : ℕ) → ComparesIntegers i → HeadInOrder a m g v (i ∷ []) → Compares v i
 comparison_reads (Lt x y) a m g v t o = o.0
 comparison_reads (Le x y) a m g v t o = o.0
@@ -230,9 +162,39 @@ choice_none h s (FindAtom x y f) is n = absurd n
 choice_none h s (AnyMem x y) is n = absurd n
 choice_none h s _ is n = refl
 
--- DEREF in order sets the next register
+-- an instruction in order sets the next register
 pub deref_is : (i : Instr) (x : ℕ) (p : AtomPort) (e a m n v : ℕ) → i ≡ Deref x p e → HeadInOrder a m n v (i ∷ []) → i ≡ Deref a p e
 deref_is i x p e a m n v t o = let u : HeadInOrder a m n v (Deref x p e ∷ []) = subst (λ j. HeadInOrder a m n v (j ∷ [])) t o in t ∙ ap (λ y. Deref y p e) u.0.0
+
+pub integer_is : (i : Instr) (x : ℕ) (p : AtomPort) (y a m n v : ℕ) → i ≡ IsInt x p y → HeadInOrder a m n v (i ∷ []) → i ≡ IsInt n p y
+integer_is i x p y a m n v t o = let u : HeadInOrder a m n v (IsInt x p y ∷ []) = subst (λ j. HeadInOrder a m n v (j ∷ [])) t o in t ∙ ap (λ j. IsInt j p y) u.0.0.0.0
+
+pub unary_is : (i : Instr) (x : ℕ) (p : AtomPort) (y a m n v : ℕ) → i ≡ IsUnary x p y → HeadInOrder a m n v (i ∷ []) → i ≡ IsUnary n p y
+unary_is i x p y a m n v t o = let u : HeadInOrder a m n v (IsUnary x p y ∷ []) = subst (λ j. HeadInOrder a m n v (j ∷ [])) t o in t ∙ ap (λ j. IsUnary j p y) u.0.0.0.0
+
+pub ground_is : (i : Instr) (x : ℕ) (p : AtomPort) (y a m n v : ℕ) → i ≡ IsGround x p y → HeadInOrder a m n v (i ∷ []) → i ≡ IsGround n p y
+ground_is i x p y a m n v t o = let u : HeadInOrder a m n v (IsGround x p y ∷ []) = subst (λ j. HeadInOrder a m n v (j ∷ [])) t o in t ∙ ap (λ j. IsGround j p y) u.0.0.0.0
+
+pub get_is : (i : Instr) (x y a m n v : ℕ) → i ≡ GetInt x y → HeadInOrder a m n v (i ∷ []) → i ≡ GetInt v y
+get_is i x y a m n v t o = let u : HeadInOrder a m n v (GetInt x y ∷ []) = subst (λ j. HeadInOrder a m n v (j ∷ [])) t o in t ∙ ap (λ j. GetInt j y) u.0.0.0
+
+pub constant_is : (i : Instr) (x : ℕ) (z : ℤ) (a m n v : ℕ) → i ≡ Const x z → HeadInOrder a m n v (i ∷ []) → i ≡ Const v z
+constant_is i x z a m n v t o = let u : HeadInOrder a m n v (Const x z ∷ []) = subst (λ j. HeadInOrder a m n v (j ∷ [])) t o in t ∙ ap (λ j. Const j z) u.0.0
+
+pub sum_is : (i : Instr) (x y z a m n v : ℕ) → i ≡ Add x y z → HeadInOrder a m n v (i ∷ []) → i ≡ Add v y z
+sum_is i x y z a m n v t o = let u : HeadInOrder a m n v (Add x y z ∷ []) = subst (λ j. HeadInOrder a m n v (j ∷ [])) t o in t ∙ ap (λ j. Add j y z) u.0.0.0
+
+pub difference_is : (i : Instr) (x y z a m n v : ℕ) → i ≡ Sub x y z → HeadInOrder a m n v (i ∷ []) → i ≡ Sub v y z
+difference_is i x y z a m n v t o = let u : HeadInOrder a m n v (Sub x y z ∷ []) = subst (λ j. HeadInOrder a m n v (j ∷ [])) t o in t ∙ ap (λ j. Sub j y z) u.0.0.0
+
+pub product_is : (i : Instr) (x y z a m n v : ℕ) → i ≡ Mul x y z → HeadInOrder a m n v (i ∷ []) → i ≡ Mul v y z
+product_is i x y z a m n v t o = let u : HeadInOrder a m n v (Mul x y z ∷ []) = subst (λ j. HeadInOrder a m n v (j ∷ [])) t o in t ∙ ap (λ j. Mul j y z) u.0.0.0
+
+pub quotient_is : (i : Instr) (x y z a m n v : ℕ) → i ≡ Div x y z → HeadInOrder a m n v (i ∷ []) → i ≡ Div v y z
+quotient_is i x y z a m n v t o = let u : HeadInOrder a m n v (Div x y z ∷ []) = subst (λ j. HeadInOrder a m n v (j ∷ [])) t o in t ∙ ap (λ j. Div j y z) u.0.0.0
+
+pub remainder_is : (i : Instr) (x y z a m n v : ℕ) → i ≡ Mod x y z → HeadInOrder a m n v (i ∷ []) → i ≡ Mod v y z
+remainder_is i x y z a m n v t o = let u : HeadInOrder a m n v (Mod x y z ∷ []) = subst (λ j. HeadInOrder a m n v (j ∷ [])) t o in t ∙ ap (λ j. Mod j y z) u.0.0.0
 
 module _ {A M : Type 0} (atom : A → ℕ) (membrane : M → ℕ) (h : Heap) where
   pub extends_itself : (g : SetRegisters A M) → Extends g g

@@ -1,13 +1,16 @@
 -- The outcome of an instruction.
-use Rattle.std.proofs.Common.{ℕ, ◌≡◌, refl, subst}
-use Rattle.std.specs.Prelude.{Bool}
+use Rattle.std.proofs.Common.{ℕ, ◌≡◌, length, refl, subst}
+use Rattle.std.specs.Prelude.{Bool, ◌↔◌, IsTrue}
 use Rattle.lmn_base.specs.declared.functor.Functor.{Functor}
 use Rattle.lmn_store_heap.specs.Heap.{Heap}
 use Rattle.lmn_instr_code.specs.declared.instr.Instr.{Instr}
 use Rattle.lmn_instr_code.specs.declared.instr.Instr.TheVariants.{FindAtom, AnyMem}
+use Rattle.lmn_instr_code.specs.Running.{HeadRegisters, HeadSize, InstructionHolds}
+use Rattle.lmn_machine_registers.specs.Agreeing.{Agrees}
 use Rattle.lmn_machine_registers.specs.declared.registers.SetRegisters.{SetRegisters}
-use Rattle.lmn_machine.specs.Searching.{ChoosesNone, Stepped}
-use Rattle.lmn_machine.specs.Outcomes.{ChoosesAtoms, ChoosesMembranes, ComparesIntegers, HasOutcome, Tells, TestsAtoms, TestsMembranes}
+use Rattle.lmn_machine.specs.Searching.{ChoosesNone, Stepped, TestsSetRegisters}
+use Rattle.lmn_machine.specs.Outcomes.{CanStep, ChoosesAtoms, ChoosesMembranes, ComparesIntegers, HasOutcome, Tells}
+use Rattle.lmn_machine.proofs.Stepping.{check_stepped}
 use Rattle.lmn_machine.specs.declared.steps.Outcome.{Outcome}
 use Rattle.lmn_machine.specs.declared.steps.Outcome.TheVariants.{Holds, Fails, ChoosesAtom, ChoosesMembrane}
 
@@ -19,19 +22,12 @@ told atom membrane h g k holds Fails i none t s = subst (λ b. Stepped atom memb
 told atom membrane h g k holds ChoosesAtom i none t s = absurd t
 told atom membrane h g k holds ChoosesMembrane i none t s = absurd t
 
--- a test of atoms makes no choice
-pub atom_test_chooses_none : (i : Instr) → TestsAtoms i → ChoosesNone i
-atom_test_chooses_none (FindAtom x y f) a = absurd a
-atom_test_chooses_none (AnyMem x y) a = absurd a
-atom_test_chooses_none _ a = tt
+-- a test of registers that are set was run
+pub tested : {A M : Type 0} (atom : A → ℕ) (membrane : M → ℕ) (h : Heap) (g : SetRegisters A M) (holds : Bool) (o : Outcome) (i : Instr) → CanStep atom membrane h g i → ChoosesNone i →
+    TestsSetRegisters (length g.atoms) (length g.membranes) (length g.integers) i → ((c : HeadSize) (s : HeadRegisters) → Agrees atom membrane g s → IsTrue holds ↔ InstructionHolds h c s i) → Tells o holds → HasOutcome atom membrane h g g o i
+tested atom membrane h g holds o i ready none reads means t = told atom membrane h g g holds o i none t (check_stepped atom membrane h g holds i ready.held reads means)
 
--- nor a test of membranes
-pub membrane_test_chooses_none : (i : Instr) → TestsMembranes i → ChoosesNone i
-membrane_test_chooses_none (FindAtom x y f) a = absurd a
-membrane_test_chooses_none (AnyMem x y) a = absurd a
-membrane_test_chooses_none _ a = tt
-
--- nor a comparison
+-- a comparison makes no choice
 pub comparison_chooses_none : (i : Instr) → ComparesIntegers i → ChoosesNone i
 comparison_chooses_none (FindAtom x y f) a = absurd a
 comparison_chooses_none (AnyMem x y) a = absurd a

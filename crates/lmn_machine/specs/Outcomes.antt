@@ -4,7 +4,7 @@ use Rattle.std.specs.Option.{option_map}
 use Rattle.lmn_store_heap.specs.Heap.{Heap, IsAtom, Unmarked, link_of, port_id}
 use Rattle.lmn_store_heap.specs.Sound.{Valid}
 use Rattle.lmn_instr_code.specs.declared.instr.Instr.{Instr}
-use Rattle.lmn_instr_code.specs.declared.instr.Instr.TheVariants.{FindAtom, AnyMem, Func, InMem, NeqAtom, Joined, NeqMem, NMems, NoRules, NotIn, IsInt, IsUnary, IsGround, NAtoms, IsClosed, EqGround, NeqGround, GetInt, Const, Add, Sub, Mul, Div, Mod, Lt, Le, Gt, Ge, Eq, Ne, Commit}
+use Rattle.lmn_instr_code.specs.declared.instr.Instr.TheVariants.{FindAtom, AnyMem, Lt, Le, Gt, Ge, Eq, Ne, Commit}
 use Rattle.lmn_machine_registers.specs.declared.registers.SetRegisters.{SetRegisters}
 use Rattle.lmn_machine.specs.Searching.{AreHeldWhole, ChoosesNone, HeadInOrder, Stepped}
 use Rattle.lmn_machine.specs.declared.steps.Outcome.{Outcome}
@@ -26,48 +26,6 @@ ChoosesAtoms _ = ⊥
 abbrev pub ChoosesMembranes : Instr → Type 0
 ChoosesMembranes (AnyMem x y) = Unit {0}
 ChoosesMembranes _ = ⊥
-
--- a test of atoms
-abbrev pub TestsAtoms : Instr → Type 0
-TestsAtoms (Func x f) = Unit {0}
-TestsAtoms (InMem x y) = Unit {0}
-TestsAtoms (NeqAtom x y) = Unit {0}
-TestsAtoms (Joined p q) = Unit {0}
-TestsAtoms _ = ⊥
-
--- a test of membranes
-abbrev pub TestsMembranes : Instr → Type 0
-TestsMembranes (NeqMem x y) = Unit {0}
-TestsMembranes (NMems x n) = Unit {0}
-TestsMembranes (NoRules x) = Unit {0}
-TestsMembranes (NotIn p x) = Unit {0}
-TestsMembranes _ = ⊥
-
--- an instruction that looks for a typed context
-abbrev pub FindsPart : Instr → Type 0
-FindsPart (IsInt x p y) = Unit {0}
-FindsPart (IsUnary x p y) = Unit {0}
-FindsPart (IsGround x p y) = Unit {0}
-FindsPart _ = ⊥
-
--- one that reads typed contexts
-abbrev pub ReadsParts : Instr → Type 0
-ReadsParts (EqGround x y) = Unit {0}
-ReadsParts (NeqGround x y) = Unit {0}
-ReadsParts (NAtoms x n gs) = Unit {0}
-ReadsParts (IsClosed x gs) = Unit {0}
-ReadsParts (GetInt x y) = Unit {0}
-ReadsParts _ = ⊥
-
--- one that sets an integer by a constant or by others
-abbrev pub ComputesInteger : Instr → Type 0
-ComputesInteger (Const x z) = Unit {0}
-ComputesInteger (Add x y z) = Unit {0}
-ComputesInteger (Sub x y z) = Unit {0}
-ComputesInteger (Mul x y z) = Unit {0}
-ComputesInteger (Div x y z) = Unit {0}
-ComputesInteger (Mod x y z) = Unit {0}
-ComputesInteger _ = ⊥
 
 -- a comparison of integers, or COMMIT
 abbrev pub ComparesIntegers : Instr → Type 0

@@ -3,11 +3,12 @@ ghost use Rattle.lmn_store_heap.specs.Sound.{Valid};
 ghost use Rattle.lmn_instr_code.specs.Running.{HeadRegisters, HeadSize, InstructionHolds};
 ghost use Rattle.lmn_store_heap.specs.Heap.{Heap};
 ghost use Rattle.lmn_machine_registers.specs.Agreeing.{Agrees};
-ghost use Rattle.lmn_machine.specs.Searching.{AreHeldWhole, Compares, TestsSetRegisters, HeadInOrder, HasGiven, HasGivenPart, Stepped};
-ghost use Rattle.lmn_machine.specs.Outcomes.{CanStep, ComparesIntegers, ComputesInteger, FindsPart, HasOutcome, ReadsParts, Tells, TestsAtoms, TestsMembranes};
-ghost use Rattle.lmn_instr_code.specs.declared.instr.Instr.TheVariants.{Deref};
+ghost use Rattle.lmn_machine.specs.Searching.{AreHeldWhole, Compares, HeadInOrder, HasGiven, HasGivenPart, Stepped};
+ghost use Rattle.lmn_machine.specs.Outcomes.{CanStep, ComparesIntegers, HasOutcome, Tells};
+ghost use Rattle.lmn_instr_code.specs.declared.instr.Instr.TheVariants.{Add, Const, Deref, Div, EqGround, Func, GetInt, InMem, IsClosed, IsGround, IsInt, IsUnary, Joined, Mod, Mul, NAtoms, NMems, NeqAtom, NeqGround, NeqMem, NoRules, NotIn, Sub};
 
 use crate::{checks, integers, others, parts, rests, whole};
+use lmn_base::{Functor, Rows};
 use lmn_ground::Found;
 use lmn_instr_code::{AtomPort, Instr};
 use lmn_machine_registers::{ROOM, SetRegisters};
@@ -45,84 +46,6 @@ fn compare<A: Copy, M: Copy>(set: &SetRegisters<A, M>, instr: &Instr) -> bool
             set.integers.at(*right as usize),
         ),
         Instr::Commit => true,
-        _ => false,
-    }
-}
-
-/// Whether a test of atoms holds of the registers that are set.
-#[inline(always)]
-fn check_atoms<S: LinkStore>(store: &S, set: &SetRegisters<S::Atom, S::Mem>, instr: &Instr) -> bool
-    requires valid { Valid (S.heap store.now) }
-    requires held { AreHeldWhole S.atom_id S.mem_id (S.heap store.now) set.now }
-    requires reads { TestsSetRegisters (length set.now.atoms) (length set.now.membranes) (length set.now.integers) instr.now }
-    requires tests { TestsAtoms instr.now }
-    ensures { (c : HeadSize) (s : HeadRegisters) → Agrees S.atom_id S.mem_id set.now s → (IsTrue result ↔ InstructionHolds (S.heap store.now) c s instr.now) }
-{
-    match instr {
-        Instr::Func { atom, functor } => checks::has_functor(
-            store,
-            set.atoms.at(*atom as usize),
-            *functor,
-        ),
-        Instr::InMem { atom, membrane } => checks::stands_in(
-            store,
-            set.atoms.at(*atom as usize),
-            set.membranes.at(*membrane as usize),
-        ),
-        Instr::NeqAtom { atom, other } => checks::atoms_differ(
-            store,
-            set.atoms.at(*atom as usize),
-            set.atoms.at(*other as usize),
-        ),
-        Instr::Joined { port, other } => {
-            checks::are_joined(
-                store,
-                set.atoms.at(port.atom as usize),
-                port.port,
-                set.atoms.at(other.atom as usize),
-                other.port,
-            )
-        }
-        _ => false,
-    }
-}
-
-/// Whether a test of membranes holds of the registers that are set.
-#[inline(always)]
-fn check_membranes<S: LinkStore>(
-    store: &S,
-    set: &SetRegisters<S::Atom, S::Mem>,
-    instr: &Instr,
-) -> bool
-    requires valid { Valid (S.heap store.now) }
-    requires held { AreHeldWhole S.atom_id S.mem_id (S.heap store.now) set.now }
-    requires reads { TestsSetRegisters (length set.now.atoms) (length set.now.membranes) (length set.now.integers) instr.now }
-    requires tests { TestsMembranes instr.now }
-    ensures { (c : HeadSize) (s : HeadRegisters) → Agrees S.atom_id S.mem_id set.now s → (IsTrue result ↔ InstructionHolds (S.heap store.now) c s instr.now) }
-{
-    match instr {
-        Instr::NeqMem { membrane, other } => checks::membranes_differ(
-            store,
-            set.membranes.at(*membrane as usize),
-            set.membranes.at(*other as usize),
-        ),
-        Instr::NMems { membrane, count } => checks::has_membranes(
-            store,
-            set.membranes.at(*membrane as usize),
-            *count,
-        ),
-        Instr::NoRules { membrane } => checks::has_no_rule(
-            store,
-            set.membranes.at(*membrane as usize),
-        ),
-        Instr::NotIn { port, membrane } => {
-            checks::is_outside(
-                store,
-                set.atoms.at(port.atom as usize),
-                port.port,
-                set.membranes.at(*membrane as usize),
-            )
-        }
         _ => false,
     }
 }
@@ -204,60 +127,128 @@ fn outcome_of(holds: bool) -> Outcome
     }
 }
 
-/// Runs a test of atoms.
+/// FUNC: whether an atom has a functor.
 #[inline(always)]
-fn run_atom_test<S: LinkStore>(
+fn ask_functor<S: LinkStore>(
     store: &S,
     set: &SetRegisters<S::Atom, S::Mem>,
-    instr: &Instr,
+    atom: u16,
+    functor: Functor,
 ) -> Outcome
-    requires ready { CanStep S.atom_id S.mem_id (S.heap store.now) set.now instr.now }
-    requires tests { TestsAtoms instr.now }
-    ensures { HasOutcome S.atom_id S.mem_id (S.heap store.now) set.now set.now result instr.now }
+    requires { CanStep S.atom_id S.mem_id (S.heap store.now) set.now (Func atom functor) }
+    ensures { HasOutcome S.atom_id S.mem_id (S.heap store.now) set.now set.now result (Func atom functor) }
 {
-    outcome_of(check_atoms(store, set, instr))
+    let asked = set.atoms.at(atom as usize);
+    outcome_of(checks::has_functor(store, asked, functor))
 }
 
-/// Runs a test of membranes.
+/// INMEM: whether an atom stands in a membrane.
 #[inline(always)]
-fn run_membrane_test<S: LinkStore>(
+fn ask_home<S: LinkStore>(
     store: &S,
     set: &SetRegisters<S::Atom, S::Mem>,
-    instr: &Instr,
+    atom: u16,
+    membrane: u16,
 ) -> Outcome
-    requires ready { CanStep S.atom_id S.mem_id (S.heap store.now) set.now instr.now }
-    requires tests { TestsMembranes instr.now }
-    ensures { HasOutcome S.atom_id S.mem_id (S.heap store.now) set.now set.now result instr.now }
+    requires { CanStep S.atom_id S.mem_id (S.heap store.now) set.now (InMem atom membrane) }
+    ensures { HasOutcome S.atom_id S.mem_id (S.heap store.now) set.now set.now result (InMem atom membrane) }
 {
-    outcome_of(check_membranes(store, set, instr))
+    let asked = set.atoms.at(atom as usize);
+    let place = set.membranes.at(membrane as usize);
+    outcome_of(checks::stands_in(store, asked, place))
 }
 
-/// Runs a test of atoms. It is no part of its caller.
-#[inline(never)]
-fn run_atom_test_apart<S: LinkStore>(
+/// NEQATOM: whether two atoms differ.
+#[inline(always)]
+fn ask_other_atom<S: LinkStore>(
     store: &S,
     set: &SetRegisters<S::Atom, S::Mem>,
-    instr: &Instr,
+    atom: u16,
+    other: u16,
 ) -> Outcome
-    requires ready { CanStep S.atom_id S.mem_id (S.heap store.now) set.now instr.now }
-    requires tests { TestsAtoms instr.now }
-    ensures { HasOutcome S.atom_id S.mem_id (S.heap store.now) set.now set.now result instr.now }
+    requires { CanStep S.atom_id S.mem_id (S.heap store.now) set.now (NeqAtom atom other) }
+    ensures { HasOutcome S.atom_id S.mem_id (S.heap store.now) set.now set.now result (NeqAtom atom other) }
 {
-    run_atom_test(store, set, instr)
+    let asked = set.atoms.at(atom as usize);
+    let another = set.atoms.at(other as usize);
+    outcome_of(checks::atoms_differ(store, asked, another))
 }
 
-/// Runs a test of membranes. It is no part of its caller.
+/// JOINED: whether two ports are partners. It is no part of its caller.
 #[inline(never)]
-fn run_membrane_test_apart<S: LinkStore>(
+fn ask_joined<S: LinkStore>(
     store: &S,
     set: &SetRegisters<S::Atom, S::Mem>,
-    instr: &Instr,
+    port: AtomPort,
+    other: AtomPort,
 ) -> Outcome
-    requires ready { CanStep S.atom_id S.mem_id (S.heap store.now) set.now instr.now }
-    requires tests { TestsMembranes instr.now }
-    ensures { HasOutcome S.atom_id S.mem_id (S.heap store.now) set.now set.now result instr.now }
+    requires { CanStep S.atom_id S.mem_id (S.heap store.now) set.now (Joined port other) }
+    ensures { HasOutcome S.atom_id S.mem_id (S.heap store.now) set.now set.now result (Joined port other) }
 {
-    run_membrane_test(store, set, instr)
+    let asked = set.atoms.at(port.atom as usize);
+    let another = set.atoms.at(other.atom as usize);
+    outcome_of(checks::are_joined(store, asked, port.port, another, other.port))
+}
+
+/// NEQMEM: whether two membranes differ.
+#[inline(always)]
+fn ask_other_membrane<S: LinkStore>(
+    store: &S,
+    set: &SetRegisters<S::Atom, S::Mem>,
+    membrane: u16,
+    other: u16,
+) -> Outcome
+    requires { CanStep S.atom_id S.mem_id (S.heap store.now) set.now (NeqMem membrane other) }
+    ensures { HasOutcome S.atom_id S.mem_id (S.heap store.now) set.now set.now result (NeqMem membrane other) }
+{
+    let asked = set.membranes.at(membrane as usize);
+    let another = set.membranes.at(other as usize);
+    outcome_of(checks::membranes_differ(store, asked, another))
+}
+
+/// NMEMS: whether a membrane holds so many membranes. It is no part of its caller.
+#[inline(never)]
+fn ask_membranes<S: LinkStore>(
+    store: &S,
+    set: &SetRegisters<S::Atom, S::Mem>,
+    membrane: u16,
+    count: u64,
+) -> Outcome
+    requires { CanStep S.atom_id S.mem_id (S.heap store.now) set.now (NMems membrane count) }
+    ensures { HasOutcome S.atom_id S.mem_id (S.heap store.now) set.now set.now result (NMems membrane count) }
+{
+    let asked = set.membranes.at(membrane as usize);
+    outcome_of(checks::has_membranes(store, asked, count))
+}
+
+/// NORULES: whether a membrane holds no rule.
+#[inline(always)]
+fn ask_no_rule<S: LinkStore>(
+    store: &S,
+    set: &SetRegisters<S::Atom, S::Mem>,
+    membrane: u16,
+) -> Outcome
+    requires { CanStep S.atom_id S.mem_id (S.heap store.now) set.now (NoRules membrane) }
+    ensures { HasOutcome S.atom_id S.mem_id (S.heap store.now) set.now set.now result (NoRules membrane) }
+{
+    let asked = set.membranes.at(membrane as usize);
+    outcome_of(checks::has_no_rule(store, asked))
+}
+
+/// NOTIN: whether a link leads out of a membrane. It is no part of its caller.
+#[inline(never)]
+fn ask_outside<S: LinkStore>(
+    store: &S,
+    set: &SetRegisters<S::Atom, S::Mem>,
+    port: AtomPort,
+    membrane: u16,
+) -> Outcome
+    requires { CanStep S.atom_id S.mem_id (S.heap store.now) set.now (NotIn port membrane) }
+    ensures { HasOutcome S.atom_id S.mem_id (S.heap store.now) set.now set.now result (NotIn port membrane) }
+{
+    let asked = set.atoms.at(port.atom as usize);
+    let place = set.membranes.at(membrane as usize);
+    outcome_of(checks::is_outside(store, asked, port.port, place))
 }
 
 /// Runs a comparison of integers, or COMMIT.
@@ -274,179 +265,212 @@ fn run_comparison<S: LinkStore>(
     outcome_of(compare(set, instr))
 }
 
-/// Runs an instruction that looks for a typed context.
+/// ISINT: an integer at the other end of a port goes into the next register.
 #[inline(always)]
-fn find_part<S: LinkStore>(
-    store: &mut S,
+fn find_integer<S: LinkStore>(
+    store: &S,
     set: &mut SetRegisters<S::Atom, S::Mem>,
-    instr: &Instr,
-    trail: &mut Found<S::Atom>,
+    port: AtomPort,
+    membrane: u16,
 ) -> Outcome
-    requires ready { CanStep S.atom_id S.mem_id (S.heap store.old) set.old instr.now }
-    requires finds { FindsPart instr.now }
-    ensures same { S.heap store.new ≡ S.heap store.old }
-    ensures stepped { HasOutcome S.atom_id S.mem_id (S.heap store.old) set.old set.new result instr.now }
+    requires { CanStep S.atom_id S.mem_id (S.heap store.now) set.old (IsInt (length set.old.parts) port membrane) }
+    ensures { HasOutcome S.atom_id S.mem_id (S.heap store.now) set.old set.new result (IsInt (length set.old.parts) port membrane) }
 {
-    match instr {
-        Instr::IsInt { port, membrane, .. } => {
-            let from = set.atoms.at(port.atom as usize);
-            let place = set.membranes.at(*membrane as usize);
-            let end = parts::lone_end(store, from, port.port, place, &set.atoms);
-            let root = parts::integer_root(store, end);
-            outcome_of(set_part(set, root))
-        }
-        Instr::IsUnary { port, membrane, .. } => {
-            let from = set.atoms.at(port.atom as usize);
-            let place = set.membranes.at(*membrane as usize);
-            let root = parts::lone_end(store, from, port.port, place, &set.atoms);
-            outcome_of(set_part(set, root))
-        }
-        Instr::IsGround { port, membrane, .. } => {
-            let from = set.atoms.at(port.atom as usize);
-            let place = set.membranes.at(*membrane as usize);
-            let root = whole::whole_end(store, from, port.port, place, &set.atoms, &mut set.listed);
-            outcome_of(set_part(set, root))
-        }
-        _ => Outcome::Fails,
-    }
+    let from = set.atoms.at(port.atom as usize);
+    let place = set.membranes.at(membrane as usize);
+    let root = parts::integer_end(store, from, port.port, place, &set.atoms);
+    outcome_of(set_part(set, root))
 }
 
-/// Runs an instruction that looks for a typed context which may be larger than an integer. It is no part of its caller.
+/// ISUNARY: likewise an atom of arity 1. It is no part of its caller.
 #[inline(never)]
-fn find_part_apart<S: LinkStore>(
-    store: &mut S,
+fn find_unary<S: LinkStore>(
+    store: &S,
     set: &mut SetRegisters<S::Atom, S::Mem>,
-    instr: &Instr,
-    trail: &mut Found<S::Atom>,
+    port: AtomPort,
+    membrane: u16,
 ) -> Outcome
-    requires ready { CanStep S.atom_id S.mem_id (S.heap store.old) set.old instr.now }
-    requires finds { FindsPart instr.now }
-    ensures same { S.heap store.new ≡ S.heap store.old }
-    ensures stepped { HasOutcome S.atom_id S.mem_id (S.heap store.old) set.old set.new result instr.now }
+    requires { CanStep S.atom_id S.mem_id (S.heap store.now) set.old (IsUnary (length set.old.parts) port membrane) }
+    ensures { HasOutcome S.atom_id S.mem_id (S.heap store.now) set.old set.new result (IsUnary (length set.old.parts) port membrane) }
 {
-    find_part(store, set, instr, trail)
+    let from = set.atoms.at(port.atom as usize);
+    let place = set.membranes.at(membrane as usize);
+    let root = parts::lone_end(store, from, port.port, place, &set.atoms);
+    outcome_of(set_part(set, root))
 }
 
-/// Runs an instruction that reads typed contexts which are set.
+/// ISGROUND: likewise a part of any size. It is no part of its caller.
+#[inline(never)]
+fn find_ground<S: LinkStore>(
+    store: &mut S,
+    set: &mut SetRegisters<S::Atom, S::Mem>,
+    port: AtomPort,
+    membrane: u16,
+) -> Outcome
+    requires { CanStep S.atom_id S.mem_id (S.heap store.old) set.old (IsGround (length set.old.parts) port membrane) }
+    ensures same { S.heap store.new ≡ S.heap store.old }
+    ensures stepped { HasOutcome S.atom_id S.mem_id (S.heap store.old) set.old set.new result (IsGround (length set.old.parts) port membrane) }
+{
+    let from = set.atoms.at(port.atom as usize);
+    let place = set.membranes.at(membrane as usize);
+    let root = whole::whole_end(store, from, port.port, place, &set.atoms, &mut set.listed);
+    outcome_of(set_part(set, root))
+}
+
+/// EQGROUND: whether two typed contexts are equal. It is no part of its caller.
+#[inline(never)]
+fn ask_equal<S: LinkStore>(
+    store: &mut S,
+    set: &SetRegisters<S::Atom, S::Mem>,
+    part: u16,
+    other: u16,
+    trail: &mut Found<S::Atom>,
+) -> Outcome
+    requires { CanStep S.atom_id S.mem_id (S.heap store.old) set.now (EqGround part other) }
+    ensures same { S.heap store.new ≡ S.heap store.old }
+    ensures stepped { HasOutcome S.atom_id S.mem_id (S.heap store.old) set.now set.now result (EqGround part other) }
+{
+    let root = set.parts.at(part as usize);
+    let other_root = set.parts.at(other as usize);
+    outcome_of(whole::are_equal(store, root, other_root, trail))
+}
+
+/// NEQGROUND: whether two typed contexts differ. It is no part of its caller.
+#[inline(never)]
+fn ask_different<S: LinkStore>(
+    store: &mut S,
+    set: &SetRegisters<S::Atom, S::Mem>,
+    part: u16,
+    other: u16,
+    trail: &mut Found<S::Atom>,
+) -> Outcome
+    requires { CanStep S.atom_id S.mem_id (S.heap store.old) set.now (NeqGround part other) }
+    ensures same { S.heap store.new ≡ S.heap store.old }
+    ensures stepped { HasOutcome S.atom_id S.mem_id (S.heap store.old) set.now set.now result (NeqGround part other) }
+{
+    let root = set.parts.at(part as usize);
+    let other_root = set.parts.at(other as usize);
+    outcome_of(whole::are_different(store, root, other_root, trail))
+}
+
+/// NATOMS: whether a membrane holds so many atoms besides those of typed contexts. It is no part of its caller.
+#[inline(never)]
+fn ask_others<S: LinkStore>(
+    store: &mut S,
+    set: &SetRegisters<S::Atom, S::Mem>,
+    membrane: u16,
+    count: u64,
+    parts: &Rows<u16>,
+    trail: &mut Found<S::Atom>,
+) -> Outcome
+    requires { CanStep S.atom_id S.mem_id (S.heap store.old) set.now (NAtoms membrane count parts.now) }
+    ensures same { S.heap store.new ≡ S.heap store.old }
+    ensures stepped { HasOutcome S.atom_id S.mem_id (S.heap store.old) set.now set.now result (NAtoms membrane count parts.now) }
+{
+    let place = set.membranes.at(membrane as usize);
+    outcome_of(others::has_others(store, set, place, parts.as_slice(), count, trail))
+}
+
+/// ISCLOSED: whether no link leaves the rest of a membrane. It is no part of its caller.
+#[inline(never)]
+fn ask_closed<S: LinkStore>(
+    store: &mut S,
+    set: &SetRegisters<S::Atom, S::Mem>,
+    membrane: u16,
+    parts: &Rows<u16>,
+    trail: &mut Found<S::Atom>,
+) -> Outcome
+    requires { CanStep S.atom_id S.mem_id (S.heap store.old) set.now (IsClosed membrane parts.now) }
+    ensures same { S.heap store.new ≡ S.heap store.old }
+    ensures stepped { HasOutcome S.atom_id S.mem_id (S.heap store.old) set.now set.now result (IsClosed membrane parts.now) }
+{
+    let place = set.membranes.at(membrane as usize);
+    outcome_of(rests::is_closed(store, set, place, parts.as_slice(), trail))
+}
+
+/// GETINT: the integer of a typed context goes into the next register.
 #[inline(always)]
-fn read_parts<S: LinkStore>(
-    store: &mut S,
+fn get_integer<S: LinkStore>(
+    store: &S,
     set: &mut SetRegisters<S::Atom, S::Mem>,
-    instr: &Instr,
-    trail: &mut Found<S::Atom>,
+    part: u16,
 ) -> Outcome
-    requires ready { CanStep S.atom_id S.mem_id (S.heap store.old) set.old instr.now }
-    requires reads { ReadsParts instr.now }
-    ensures same { S.heap store.new ≡ S.heap store.old }
-    ensures stepped { HasOutcome S.atom_id S.mem_id (S.heap store.old) set.old set.new result instr.now }
+    requires { CanStep S.atom_id S.mem_id (S.heap store.now) set.old (GetInt (length set.old.integers) part) }
+    ensures { HasOutcome S.atom_id S.mem_id (S.heap store.now) set.old set.new result (GetInt (length set.old.integers) part) }
 {
-    match instr {
-        Instr::EqGround { part, other } => {
-            let root = set.parts.at(*part as usize);
-            let other_root = set.parts.at(*other as usize);
-            outcome_of(whole::are_equal(store, root, other_root, trail))
-        }
-        Instr::NeqGround { part, other } => {
-            let root = set.parts.at(*part as usize);
-            let other_root = set.parts.at(*other as usize);
-            outcome_of(whole::are_different(store, root, other_root, trail))
-        }
-        Instr::NAtoms {
-            membrane,
-            count,
-            parts,
-        } => {
-            let place = set.membranes.at(*membrane as usize);
-            outcome_of(others::has_others(store, set, place, parts.as_slice(), *count, trail))
-        }
-        Instr::IsClosed { membrane, parts } => {
-            let place = set.membranes.at(*membrane as usize);
-            outcome_of(rests::is_closed(store, set, place, parts.as_slice(), trail))
-        }
-        Instr::GetInt { part, .. } => {
-            let root = set.parts.at(*part as usize);
-            let value = parts::integer_of(store, root.0);
-            outcome_of(set_integer(set, value))
-        }
-        _ => Outcome::Fails,
-    }
+    let root = set.parts.at(part as usize);
+    let value = parts::integer_of(store, root.0);
+    outcome_of(set_integer(set, value))
 }
 
-/// Runs an instruction that reads typed contexts. It is no part of its caller.
-#[inline(never)]
-fn read_parts_apart<S: LinkStore>(
-    store: &mut S,
-    set: &mut SetRegisters<S::Atom, S::Mem>,
-    instr: &Instr,
-    trail: &mut Found<S::Atom>,
-) -> Outcome
-    requires ready { CanStep S.atom_id S.mem_id (S.heap store.old) set.old instr.now }
-    requires reads { ReadsParts instr.now }
-    ensures same { S.heap store.new ≡ S.heap store.old }
-    ensures stepped { HasOutcome S.atom_id S.mem_id (S.heap store.old) set.old set.new result instr.now }
-{
-    read_parts(store, set, instr, trail)
-}
-
-/// Runs an instruction that sets an integer by a constant or by two that are set.
+/// CONST: a number goes into the next register.
 #[inline(always)]
-fn compute<A: Copy, M: Copy>(set: &mut SetRegisters<A, M>, instr: &Instr) -> Outcome
-    requires order { HeadInOrder (length set.old.atoms) (length set.old.membranes) (length set.old.parts) (length set.old.integers) (instr.now ∷ []) }
-    requires computes { ComputesInteger instr.now }
-    ensures { (atom : A → ℕ) (membrane : M → ℕ) (h : Heap) → AreHeldWhole atom membrane h set.old → HasOutcome atom membrane h set.old set.new result instr.now }
+fn set_constant<A: Copy, M: Copy>(set: &mut SetRegisters<A, M>, value: i64) -> Outcome
+    requires { HeadInOrder (length set.old.atoms) (length set.old.membranes) (length set.old.parts) (length set.old.integers) (Const (length set.old.integers) value ∷ []) }
+    ensures { (atom : A → ℕ) (membrane : M → ℕ) (h : Heap) → AreHeldWhole atom membrane h set.old → HasOutcome atom membrane h set.old set.new result (Const (length set.old.integers) value) }
 {
-    match instr {
-        Instr::Const { value, .. } => {
-            let number = integers::constant(value);
-            outcome_of(set_integer(set, number))
-        }
-        Instr::Add { left, right, .. } => {
-            let value = integers::sum(
-                set.integers.at(*left as usize),
-                set.integers.at(*right as usize),
-            );
-            outcome_of(set_integer(set, value))
-        }
-        Instr::Sub { left, right, .. } => {
-            let value = integers::difference(
-                set.integers.at(*left as usize),
-                set.integers.at(*right as usize),
-            );
-            outcome_of(set_integer(set, value))
-        }
-        Instr::Mul { left, right, .. } => {
-            let value = integers::product(
-                set.integers.at(*left as usize),
-                set.integers.at(*right as usize),
-            );
-            outcome_of(set_integer(set, value))
-        }
-        Instr::Div { left, right, .. } => {
-            let value = integers::quotient(
-                set.integers.at(*left as usize),
-                set.integers.at(*right as usize),
-            );
-            outcome_of(set_integer(set, value))
-        }
-        Instr::Mod { left, right, .. } => {
-            let value = integers::remainder(
-                set.integers.at(*left as usize),
-                set.integers.at(*right as usize),
-            );
-            outcome_of(set_integer(set, value))
-        }
-        _ => Outcome::Fails,
-    }
+    set.integers.push(value);
+    Outcome::Holds
 }
 
-/// Runs an instruction that sets an integer. It is no part of its caller.
-#[inline(never)]
-fn compute_apart<A: Copy, M: Copy>(set: &mut SetRegisters<A, M>, instr: &Instr) -> Outcome
-    requires order { HeadInOrder (length set.old.atoms) (length set.old.membranes) (length set.old.parts) (length set.old.integers) (instr.now ∷ []) }
-    requires computes { ComputesInteger instr.now }
-    ensures { (atom : A → ℕ) (membrane : M → ℕ) (h : Heap) → AreHeldWhole atom membrane h set.old → HasOutcome atom membrane h set.old set.new result instr.now }
+/// ADD: the sum of two integers goes into the next register.
+#[inline(always)]
+fn add<A: Copy, M: Copy>(set: &mut SetRegisters<A, M>, left: u16, right: u16) -> Outcome
+    requires { HeadInOrder (length set.old.atoms) (length set.old.membranes) (length set.old.parts) (length set.old.integers) (Add (length set.old.integers) left right ∷ []) }
+    ensures { (atom : A → ℕ) (membrane : M → ℕ) (h : Heap) → AreHeldWhole atom membrane h set.old → HasOutcome atom membrane h set.old set.new result (Add (length set.old.integers) left right) }
 {
-    compute(set, instr)
+    let m = set.integers.at(left as usize);
+    let n = set.integers.at(right as usize);
+    let value = integers::sum(m, n);
+    outcome_of(set_integer(set, value))
+}
+
+/// SUB: likewise the difference. It is no part of its caller.
+#[inline(never)]
+fn subtract<A: Copy, M: Copy>(set: &mut SetRegisters<A, M>, left: u16, right: u16) -> Outcome
+    requires { HeadInOrder (length set.old.atoms) (length set.old.membranes) (length set.old.parts) (length set.old.integers) (Sub (length set.old.integers) left right ∷ []) }
+    ensures { (atom : A → ℕ) (membrane : M → ℕ) (h : Heap) → AreHeldWhole atom membrane h set.old → HasOutcome atom membrane h set.old set.new result (Sub (length set.old.integers) left right) }
+{
+    let m = set.integers.at(left as usize);
+    let n = set.integers.at(right as usize);
+    let value = integers::difference(m, n);
+    outcome_of(set_integer(set, value))
+}
+
+/// MUL: likewise the product. It is no part of its caller.
+#[inline(never)]
+fn multiply<A: Copy, M: Copy>(set: &mut SetRegisters<A, M>, left: u16, right: u16) -> Outcome
+    requires { HeadInOrder (length set.old.atoms) (length set.old.membranes) (length set.old.parts) (length set.old.integers) (Mul (length set.old.integers) left right ∷ []) }
+    ensures { (atom : A → ℕ) (membrane : M → ℕ) (h : Heap) → AreHeldWhole atom membrane h set.old → HasOutcome atom membrane h set.old set.new result (Mul (length set.old.integers) left right) }
+{
+    let m = set.integers.at(left as usize);
+    let n = set.integers.at(right as usize);
+    let value = integers::product(m, n);
+    outcome_of(set_integer(set, value))
+}
+
+/// DIV: likewise the quotient. It is no part of its caller.
+#[inline(never)]
+fn divide<A: Copy, M: Copy>(set: &mut SetRegisters<A, M>, left: u16, right: u16) -> Outcome
+    requires { HeadInOrder (length set.old.atoms) (length set.old.membranes) (length set.old.parts) (length set.old.integers) (Div (length set.old.integers) left right ∷ []) }
+    ensures { (atom : A → ℕ) (membrane : M → ℕ) (h : Heap) → AreHeldWhole atom membrane h set.old → HasOutcome atom membrane h set.old set.new result (Div (length set.old.integers) left right) }
+{
+    let m = set.integers.at(left as usize);
+    let n = set.integers.at(right as usize);
+    let value = integers::quotient(m, n);
+    outcome_of(set_integer(set, value))
+}
+
+/// MOD: likewise the remainder. It is no part of its caller.
+#[inline(never)]
+fn take_remainder<A: Copy, M: Copy>(set: &mut SetRegisters<A, M>, left: u16, right: u16) -> Outcome
+    requires { HeadInOrder (length set.old.atoms) (length set.old.membranes) (length set.old.parts) (length set.old.integers) (Mod (length set.old.integers) left right ∷ []) }
+    ensures { (atom : A → ℕ) (membrane : M → ℕ) (h : Heap) → AreHeldWhole atom membrane h set.old → HasOutcome atom membrane h set.old set.new result (Mod (length set.old.integers) left right) }
+{
+    let m = set.integers.at(left as usize);
+    let n = set.integers.at(right as usize);
+    let value = integers::remainder(m, n);
+    outcome_of(set_integer(set, value))
 }
 
 /// Runs an instruction, unless it makes a choice.
@@ -465,30 +489,33 @@ pub fn step<S: LinkStore>(
         Instr::FindAtom { .. } => Outcome::ChoosesAtom,
         Instr::AnyMem { .. } => Outcome::ChoosesMembrane,
         Instr::Deref { from, port, .. } => outcome_of(follow(store, set, *from, *port)),
-        // Each of these is an arm of its own, so that one jump leads to what it does. What most heads ask is a part of `step`, and all
-        // else is called: `step` is to be small enough to be a part of both searches.
-        Instr::IsInt { .. } => find_part(store, set, instr, trail),
-        Instr::IsUnary { .. } => find_part_apart(store, set, instr, trail),
-        Instr::IsGround { .. } => find_part_apart(store, set, instr, trail),
-        Instr::EqGround { .. } => read_parts_apart(store, set, instr, trail),
-        Instr::NeqGround { .. } => read_parts_apart(store, set, instr, trail),
-        Instr::NAtoms { .. } => read_parts_apart(store, set, instr, trail),
-        Instr::IsClosed { .. } => read_parts_apart(store, set, instr, trail),
-        Instr::GetInt { .. } => read_parts(store, set, instr, trail),
-        Instr::Const { .. } => compute(set, instr),
-        Instr::Add { .. } => compute(set, instr),
-        Instr::Sub { .. } => compute_apart(set, instr),
-        Instr::Mul { .. } => compute_apart(set, instr),
-        Instr::Div { .. } => compute_apart(set, instr),
-        Instr::Mod { .. } => compute_apart(set, instr),
-        Instr::Func { .. } => run_atom_test(store, set, instr),
-        Instr::InMem { .. } => run_atom_test(store, set, instr),
-        Instr::NeqAtom { .. } => run_atom_test(store, set, instr),
-        Instr::Joined { .. } => run_atom_test_apart(store, set, instr),
-        Instr::NeqMem { .. } => run_membrane_test(store, set, instr),
-        Instr::NMems { .. } => run_membrane_test_apart(store, set, instr),
-        Instr::NoRules { .. } => run_membrane_test(store, set, instr),
-        Instr::NotIn { .. } => run_membrane_test_apart(store, set, instr),
+        // What most heads ask is a part of `step`, and all else is called: `step` is to be small enough to be a part of both searches.
+        Instr::IsInt { port, membrane, .. } => find_integer(store, set, *port, *membrane),
+        Instr::IsUnary { port, membrane, .. } => find_unary(store, set, *port, *membrane),
+        Instr::IsGround { port, membrane, .. } => find_ground(store, set, *port, *membrane),
+        Instr::EqGround { part, other } => ask_equal(store, set, *part, *other, trail),
+        Instr::NeqGround { part, other } => ask_different(store, set, *part, *other, trail),
+        Instr::NAtoms {
+            membrane,
+            count,
+            parts,
+        } => ask_others(store, set, *membrane, *count, parts, trail),
+        Instr::IsClosed { membrane, parts } => ask_closed(store, set, *membrane, parts, trail),
+        Instr::GetInt { part, .. } => get_integer(store, set, *part),
+        Instr::Const { value, .. } => set_constant(set, *value),
+        Instr::Add { left, right, .. } => add(set, *left, *right),
+        Instr::Sub { left, right, .. } => subtract(set, *left, *right),
+        Instr::Mul { left, right, .. } => multiply(set, *left, *right),
+        Instr::Div { left, right, .. } => divide(set, *left, *right),
+        Instr::Mod { left, right, .. } => take_remainder(set, *left, *right),
+        Instr::Func { atom, functor } => ask_functor(store, set, *atom, *functor),
+        Instr::InMem { atom, membrane } => ask_home(store, set, *atom, *membrane),
+        Instr::NeqAtom { atom, other } => ask_other_atom(store, set, *atom, *other),
+        Instr::Joined { port, other } => ask_joined(store, set, *port, *other),
+        Instr::NeqMem { membrane, other } => ask_other_membrane(store, set, *membrane, *other),
+        Instr::NMems { membrane, count } => ask_membranes(store, set, *membrane, *count),
+        Instr::NoRules { membrane } => ask_no_rule(store, set, *membrane),
+        Instr::NotIn { port, membrane } => ask_outside(store, set, *port, *membrane),
         Instr::Commit => Outcome::Holds,
         _ => run_comparison(store, set, instr),
     }

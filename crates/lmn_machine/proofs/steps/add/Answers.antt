@@ -1,0 +1,11 @@
+use Rattle.std.proofs.Common.{length, refl}
+use Rattle.lmn_instr_code.specs.declared.instr.Instr.TheVariants.{Add}
+use Rattle.lmn_machine.proofs.Telling.{told}
+use Rattle.lmn_machine.proofs.Giving.{sum_stepped}
+use Rattle.lmn_machine.proofs.steps.add.Goals as goal
+
+pub returns : goal.returns
+returns g c = λ atom membrane h held.
+    told atom membrane h c.args.set.now c.set_integer.new.set c.set_integer.result c.outcome_of.result (Add (length c.args.set.now.integers) c.args.left c.args.right) tt c.outcome_of.ensures
+    (sum_stepped atom membrane h c.args.set.now c.set_integer.new.set c.set_integer.result (Add (length c.args.set.now.integers) c.args.left c.args.right) _ _ _ _ _ c.sum-value.result refl c.requires held
+    c.at-m.ensures c.at-n.ensures (record { sfits = c.at-m.type_inv }) (record { sfits = c.at-n.type_inv }) c.sum-value.ensures c.set_integer.ensures)
