@@ -405,12 +405,12 @@ fn get_integer<S: LinkStore>(
 
 /// CONST: a number goes into the next register.
 #[inline(always)]
-fn set_constant<A: Copy, M: Copy>(set: &mut SetRegisters<A, M>, value: i64) -> Outcome
-    requires { HeadInOrder (length set.old.atoms) (length set.old.membranes) (length set.old.parts) (length set.old.integers) (Const (length set.old.integers) value ∷ []) }
-    ensures { (atom : A → ℕ) (membrane : M → ℕ) (h : Heap) → AreHeldWhole atom membrane h set.old → HasOutcome atom membrane h set.old set.new result (Const (length set.old.integers) value) }
+fn set_constant<A: Copy, M: Copy>(set: &mut SetRegisters<A, M>, value: &i64) -> Outcome
+    requires { HeadInOrder (length set.old.atoms) (length set.old.membranes) (length set.old.parts) (length set.old.integers) (Const (length set.old.integers) value.now ∷ []) }
+    ensures { (atom : A → ℕ) (membrane : M → ℕ) (h : Heap) → AreHeldWhole atom membrane h set.old → HasOutcome atom membrane h set.old set.new result (Const (length set.old.integers) value.now) }
 {
-    set.integers.push(value);
-    Outcome::Holds
+    let number = integers::constant(value);
+    outcome_of(set_integer(set, number))
 }
 
 /// ADD: the sum of two integers goes into the next register.
@@ -502,7 +502,7 @@ pub fn step<S: LinkStore>(
         } => ask_others(store, set, *membrane, *count, parts, trail),
         Instr::IsClosed { membrane, parts } => ask_closed(store, set, *membrane, parts, trail),
         Instr::GetInt { part, .. } => get_integer(store, set, *part),
-        Instr::Const { value, .. } => set_constant(set, *value),
+        Instr::Const { value, .. } => set_constant(set, value),
         Instr::Add { left, right, .. } => add(set, *left, *right),
         Instr::Sub { left, right, .. } => subtract(set, *left, *right),
         Instr::Mul { left, right, .. } => multiply(set, *left, *right),
