@@ -1,5 +1,5 @@
 -- Steps of the machine, and what is passed so far.
-use Rattle.std.proofs.Common.{ℕ, ℤ, zero, suc, ◌≡◌, ◌≤◌, ◌+◌, List, [], ◌∷◌, Some, refl, arith, ap, sym, subst, length, take, ◌∙◌}
+use Rattle.std.proofs.Common.{ℕ, ℤ, zero, suc, ◌≡◌, ◌≤◌, ◌+◌, List, [], ◌∷◌, Some, refl, arith, ap, sym, subst, length, take, drop, ◌∙◌}
 use Rattle.std.specs.Prelude.{Bool, true, false, slice_get, ◌<◌}
 use Rattle.std.specs.List.{AllByRecursion}
 use Rattle.lmn_base.specs.declared.functor.Functor.{Functor}
@@ -9,6 +9,7 @@ use Rattle.lmn_instr_code.specs.declared.instr.AtomPort.{AtomPort}
 use Rattle.lmn_instr_code.specs.declared.instr.Instr.{Instr}
 use Rattle.lmn_instr_code.specs.declared.instr.Instr.TheVariants.{FindAtom, Deref, Func, InMem, NeqAtom, Joined, NotIn, AnyMem, NeqMem, IsInt, IsUnary, IsGround, NAtoms, NMems, NoRules, IsClosed, EqGround, NeqGround, GetInt, Const, Add, Sub, Mul, Div, Mod, Lt, Le, Gt, Ge, Eq, Ne, Commit}
 use Rattle.lmn_instr_code.specs.Running.{HeadRegisters, HeadSize, InstructionHolds, AllHold, atoms_set, membranes_set, choices}
+use Rattle.lmn_instr_pool.specs.Extents.{Acts, NoneFrom}
 use Rattle.lmn_machine_registers.specs.declared.registers.SetRegisters.{SetRegisters}
 use Rattle.lmn_machine_registers.specs.Agreeing.{Agrees}
 use Rattle.lmn_machine.specs.Searching.{AreHeldWhole, Compares, Extends, SetsAll, AllSet, TestsSetRegisters, Searched, Stepped, ChoosesNone, HeadInOrder, SetsMore, parts_set, integers_set}
@@ -136,6 +137,16 @@ integers_more (Mul x y z) is = omega arith
 integers_more (Div x y z) is = omega arith
 integers_more (Mod x y z) is = omega arith
 integers_more _ is = omega arith
+
+-- what neither asks nor does anything is COMMIT
+no_act : (i : Instr) → (Acts i → ⊥) → i ≡ Commit
+no_act Commit none = refl
+no_act _ none = absurd (none tt)
+
+get_drop : (xs : List Instr) (i k : ℕ) → slice_get (drop i xs) k ≡ slice_get xs (i + k)
+get_drop xs zero k = let e : k ≡ 0 + k = omega arith in ap (slice_get xs) e
+get_drop [] (suc i) k = refl
+get_drop (x ∷ xs) (suc i) k = let e : suc (i + k) ≡ suc i + k = omega arith in get_drop xs i k ∙ ap (slice_get (x ∷ xs)) e
 
 -- what an instruction sets: so many atoms, membranes, typed contexts and integers
 abbrev pub SetsSo : Instr → ℕ → ℕ → ℕ → ℕ → Type 0
@@ -331,3 +342,14 @@ module _ {A M : Type 0} (atom : A → ℕ) (membrane : M → ℕ) (h : Heap) whe
     };
     none = λ u c s m a v. (let w = p.on c s m a v in t.none u c s (left_sets g0 g code0 code p c m) w.0 w.1);
   }
+
+  commits_pass : (g0 g : SetRegisters A M) (code0 left : List Instr) → ((k : ℕ) (x : Instr) → slice_get left k ≡ Some x → Acts x → ⊥) → Passed g0 g code0 left → Passed g0 g code0 []
+  commits_pass g0 g code0 [] none p = p
+  commits_pass g0 g code0 (x ∷ xs) none p =
+      let q : Passed g0 g code0 (Commit ∷ xs) = subst (λ i. Passed g0 g code0 (i ∷ xs)) (no_act x (none 0 x refl)) p in
+      commits_pass g0 g code0 xs (λ k y e. none (suc k) y e)
+      (passed_one g0 g g code0 xs Commit tt q (check_stepped g true Commit q.held tt (λ c s a. (λ t. tt, λ t. refl))))
+
+  -- where all code from a place on is COMMIT, and all before is passed, the search is at its end
+  pub passed_end : (g0 g : SetRegisters A M) (code0 code : List Instr) (n i : ℕ) → n ≤ i → NoneFrom Acts n code → Passed g0 g code0 (drop i code) → Searched atom membrane h g0 g true code0
+  passed_end g0 g code0 code n i past none p = passed_all g0 g code0 (commits_pass g0 g code0 (drop i code) (λ k x e. none (i + k) x (omega (arith, past)) (sym (get_drop code i k) ∙ e)) p)

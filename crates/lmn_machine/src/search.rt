@@ -72,7 +72,8 @@ fn search<S: LinkStore>(
     ensures same { S.heap store.new ≡ S.heap store.old }
     ensures searched { Lasted patience.new.left S.atom_id S.mem_id (S.heap store.old) set.old set.new result (drop at code.now) }
 {
-    for i in start..code.len() {
+    // Behind these places all are COMMIT.
+    for i in start..code.acts() {
         let instr = code.at(i);
         match steps::step(store, set, instr, trail) {
             Outcome::Holds => {}

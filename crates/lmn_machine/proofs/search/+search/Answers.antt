@@ -18,9 +18,9 @@ use Rattle.lmn_machine.proofs.Differing.{each_holds_up_to, passed_up_to}
 use Rattle.lmn_machine.proofs.Trying.{given_up, lasted, lasted_by, passed_lasted}
 use Rattle.lmn_machine.proofs.Listing.{held_forgetting, lasted_listing, listing}
 use Rattle.lmn_machine.proofs.Telling.{atoms_chosen, membranes_chosen}
-use Rattle.lmn_machine.proofs.Stepping.{Passed, extends_itself, extends_on, passed_one, failed, passed_all}
+use Rattle.lmn_machine.proofs.Stepping.{Passed, extends_itself, extends_on, passed_one, failed, passed_end}
 use Rattle.lmn_machine.proofs.Choosing.{atoms_gone, AtomsLeft, MembranesLeft, extends_atom, extends_membrane, atoms_first, atoms_next, atoms_none, atoms_found, membranes_first, membranes_next, membranes_none, membranes_found, held_atom, held_membrane}
-use Rattle.lmn_machine.proofs.Calling.{told_none, read_at, drop_none, order_first, if_both, none_is, one_more, one_membrane_more, taken_back, having_atoms, having_membranes, next_same, next_mem_same, atom_ahead, membrane_ahead}
+use Rattle.lmn_machine.proofs.Calling.{told_none, read_at, order_first, if_both, none_is, one_more, one_membrane_more, taken_back, having_atoms, having_membranes, next_same, next_mem_same, atom_ahead, membrane_ahead}
 use Rattle.lmn_machine.proofs.search.+search.Goals as goal
 use Rattle.lmn_base.proofs.Lists.{drop_get}
 use Rattle.std.proofs.lemmas.List.{length_push}
@@ -150,9 +150,8 @@ search-loop-i-preserved g t c =
 
 pub search-returns-clause-searched : goal.search-returns-clause-searched
 search-returns-clause-searched g t c =
-    let nothing = drop_none c.args.code.now c.loop-i.i (let past = c.loop-i-test.false in let end = c.len-i-end.ensures.len in omega (arith, past, end)) in
-    lasted g.S.LinkStore.atom_id g.S.LinkStore.mem_id (g.S.LinkStore.heap c.args.store.now) _ _ _ _ _ (passed_all g.S.LinkStore.atom_id g.S.LinkStore.mem_id (g.S.LinkStore.heap c.args.store.now) c.args.set.now c.loop-i.set (drop c.args.at c.args.code.now)
-    (subst (λ left. Passed g.S.LinkStore.atom_id g.S.LinkStore.mem_id (g.S.LinkStore.heap c.args.store.now) c.args.set.now c.loop-i.set (drop c.args.at c.args.code.now) left) nothing c.loop-i.invariant.passed))
+    lasted g.S.LinkStore.atom_id g.S.LinkStore.mem_id (g.S.LinkStore.heap c.args.store.now) _ _ _ _ _ (passed_end g.S.LinkStore.atom_id g.S.LinkStore.mem_id (g.S.LinkStore.heap c.args.store.now) c.args.set.now c.loop-i.set (drop c.args.at c.args.code.now) c.args.code.now c.acts-i-end.result c.loop-i.i
+    (let past = c.loop-i-test.false in omega (arith, past)) c.acts-i-end.ensures.none c.loop-i.invariant.passed)
 
 pub choose_atom-search_atoms-requires : goal.choose_atom-search_atoms-requires
 choose_atom-search_atoms-requires g t c κs within =
