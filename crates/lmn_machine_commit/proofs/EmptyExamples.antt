@@ -1,8 +1,8 @@
--- When an empty body can be prepared.
+-- When an empty body can be prepared, and which instructions are rare.
 use Rattle.std.proofs.Common.{ℕ, zero, suc, ◌≡◌, [], ◌∷◌, Some, IsSome, refl, subst}
 use Rattle.std.specs.Prelude.{slice_get}
 use Rattle.lmn_store_heap.specs.Heap.{Heap, IsMem}
-use Rattle.lmn_machine_commit.specs.Examples.{EmptyBodyIsReady, CopiesAreNotReady, LostAtomsAreNotReady}
+use Rattle.lmn_machine_commit.specs.Examples.{EmptyBodyIsReady, CopiesAreNotReady, LostAtomsAreNotReady, TakingIsRare}
 use Rattle.lmn_machine_commit.proofs.Waiting.{none_there}
 
 -- the one membrane is there
@@ -30,3 +30,7 @@ pub lost_atoms_are_not_ready : LostAtomsAreNotReady
 lost_atoms_are_not_ready h port none t =
     let there : IsSome (h.atoms 0) = (t.held.listed 0 refl).port.0 in
     none_there (h.atoms 0) there none
+
+-- taking a membrane is rare, and ending code isn't
+pub taking_is_rare : TakingIsRare
+taking_is_rare = (tt, λ e. e)

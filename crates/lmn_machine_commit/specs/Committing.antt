@@ -3,7 +3,7 @@ use Rattle.std.specs.Prelude.{ℕ, List, [], ◌∷◌, None}
 use Rattle.lmn_store_heap.specs.Heap.{Heap}
 use Rattle.lmn_ground.specs.Spread.{IsWhole}
 use Rattle.lmn_instr_code.specs.declared.instr.Instr.{Instr}
-use Rattle.lmn_instr_code.specs.declared.instr.Instr.TheVariants.{RemovePart}
+use Rattle.lmn_instr_code.specs.declared.instr.Instr.TheVariants.{RemovePart, NewAtom, NewInt, NewLink, Relink, Unify, Proceed}
 use Rattle.lmn_solid_bodies.specs.Running.{Registers, Does, DoesAll}
 use Rattle.lmn_solid_bodies.specs.Conditions.{Can, StandsAsPort}
 use Rattle.lmn_machine_registers.specs.declared.registers.SetRegisters.{SetRegisters}
@@ -13,6 +13,16 @@ use Rattle.lmn_machine_commit.specs.Registers.{AgreesWithCopies}
 abbrev pub Stands : Registers → Instr → Heap → Type 0
 Stands r (RemovePart g) s = StandsAsPort s (r.head.images.part g) × IsWhole s (r.head.images.part g) None
 Stands r _ s = Unit {0}
+
+-- it neither places an atom nor joins ports nor ends code
+abbrev pub IsRare : Instr → Type 0
+IsRare (NewAtom x y f) = ⊥
+IsRare (NewInt x y z) = ⊥
+IsRare (NewLink p q) = ⊥
+IsRare (Relink p h) = ⊥
+IsRare (Unify p h) = ⊥
+IsRare Proceed = ⊥
+IsRare _ = Unit {0}
 
 -- Code can be committed from a heap: its first instruction can be run, and the rest from each heap that this one leaves.
 abbrev pub Runs : Registers → List Instr → Heap → Type 0

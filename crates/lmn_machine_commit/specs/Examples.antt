@@ -4,6 +4,8 @@ use Rattle.lmn_store_heap.specs.Heap.{Heap, IsMem}
 use Rattle.lmn_ground.specs.declared.listing.PartList.{PartList}
 use Rattle.lmn_machine_registers.specs.declared.registers.PartCopy.{PartCopy}
 use Rattle.lmn_machine_registers.specs.declared.registers.SetRegisters.{SetRegisters}
+use Rattle.lmn_instr_code.specs.declared.instr.Instr.TheVariants.{RemoveMem, Proceed}
+use Rattle.lmn_machine_commit.specs.Committing.{IsRare}
 use Rattle.lmn_machine_commit.specs.Preparing.{CanPrepare}
 
 -- a handle is its number
@@ -29,3 +31,7 @@ CopiesAreNotReady = (h : Heap) (c : PartCopy ℕ) → CanPrepare number number h
 -- nor where an atom is listed that isn't there
 abbrev pub LostAtomsAreNotReady : Type 0
 LostAtomsAreNotReady = (h : Heap) (port : ℕ) → h.atoms 0 ≡ None → CanPrepare number number h (home_set [] (record { port = port; atoms = 0 ∷ [] })) [] → ⊥
+
+-- taking a membrane is rare, and ending code isn't
+abbrev pub TakingIsRare : Type 0
+TakingIsRare = IsRare (RemoveMem 0) × (IsRare Proceed → ⊥)

@@ -6,7 +6,7 @@ ghost use Rattle.lmn_store_heap.specs.Heap.{IsMemInPlace, port_id, Unmarked};
 ghost use Rattle.lmn_solid_bodies.specs.Conditions.{Can};
 ghost use Rattle.lmn_machine_commit.specs.Registers.{AgreesWithCopies, HasCopies, HasRests};
 ghost use Rattle.lmn_machine_commit.specs.Preparing.{AllUse, Uses, UsesPort};
-ghost use Rattle.lmn_machine_commit.specs.Committing.{IsDoneSoFar, Runs, Stands};
+ghost use Rattle.lmn_machine_commit.specs.Committing.{IsDoneSoFar, IsRare, Runs, Stands};
 ghost use Rattle.lmn_machine_commit.specs.Matched.{IsPrepared};
 ghost use Rattle.lmn_store_heap.specs.Sound.{Valid};
 ghost use Rattle.lmn_machine_commit.specs.Waking.{Commits};
@@ -50,13 +50,15 @@ fn place_atoms<S: LinkStore>(store: &mut S, count: u64, m: S::Mem)
     }
 }
 
-/// Does what an instruction does.
-fn run<S: LinkStore>(
+/// Does what a rarer instruction does. It is no part of its caller, which keeps what it needs in few places so.
+#[inline(never)]
+fn run_rare<S: LinkStore>(
     store: &mut S,
     instr: &Instr,
     set: &SetRegisters<S::Atom, S::Mem>,
     trail: &mut Found<S::Atom>,
 )
+    requires rare { IsRare instr.now }
     requires unmarked { Unmarked (S.heap store.old) }
     requires uses { Uses (length set.now.atoms) (length set.now.membranes) (length set.now.parts) (length set.now.copies) instr.now }
     requires can { (r : Registers) × AgreesWithCopies S.atom_id S.mem_id set.now r × Can r instr.now (S.heap store.old) × Stands r instr.now (S.heap store.old) }
@@ -67,12 +69,6 @@ fn run<S: LinkStore>(
         Instr::RemoveAtom { atom } => store.take_atom(set.atoms.at(*atom as usize)),
         Instr::RemovePart { part } => take_part(store, set.parts.at(*part as usize), trail),
         Instr::RemoveMem { membrane } => store.take_mem(set.membranes.at(*membrane as usize)),
-        Instr::NewAtom { membrane, .. } => {
-            let _atom = store.place_atom(set.membranes.at(*membrane as usize));
-        }
-        Instr::NewInt { membrane, .. } => {
-            let _atom = store.place_atom(set.membranes.at(*membrane as usize));
-        }
         Instr::NewMem { inside, .. } => {
             let _membrane = store.place_mem(set.membranes.at(*inside as usize));
         }
@@ -103,6 +99,31 @@ fn run<S: LinkStore>(
                 set.membranes.at(*to as usize),
             );
         }
+        _ => unreachable!(),
+    }
+}
+
+/// Does what an instruction does.
+#[inline(always)]
+fn run<S: LinkStore>(
+    store: &mut S,
+    instr: &Instr,
+    set: &SetRegisters<S::Atom, S::Mem>,
+    trail: &mut Found<S::Atom>,
+)
+    requires unmarked { Unmarked (S.heap store.old) }
+    requires uses { Uses (length set.now.atoms) (length set.now.membranes) (length set.now.parts) (length set.now.copies) instr.now }
+    requires can { (r : Registers) × AgreesWithCopies S.atom_id S.mem_id set.now r × Can r instr.now (S.heap store.old) × Stands r instr.now (S.heap store.old) }
+    ensures { (r : Registers) → AgreesWithCopies S.atom_id S.mem_id set.now r → Can r instr.now (S.heap store.old) → Does r instr.now (S.heap store.old) (S.heap store.new) }
+{
+    let _root = store.root();
+    match instr {
+        Instr::NewAtom { membrane, .. } => {
+            let _atom = store.place_atom(set.membranes.at(*membrane as usize));
+        }
+        Instr::NewInt { membrane, .. } => {
+            let _atom = store.place_atom(set.membranes.at(*membrane as usize));
+        }
         Instr::NewLink { port, other } => {
             let p = made_port(set, *port);
             let q = made_port(set, *other);
@@ -119,7 +140,7 @@ fn run<S: LinkStore>(
             unify(store, p, q);
         }
         Instr::Proceed => store.finish(),
-        _ => unreachable!(),
+        _ => run_rare(store, instr, set, trail),
     }
 }
 

@@ -1,5 +1,5 @@
 //! Laws of the code of bodies.
-ghost use Rattle.lmn_machine_commit.specs.Examples.{CopiesAreNotReady, EmptyBodyIsReady, LostAtomsAreNotReady};
+ghost use Rattle.lmn_machine_commit.specs.Examples.{CopiesAreNotReady, EmptyBodyIsReady, LostAtomsAreNotReady, TakingIsRare};
 ghost use Rattle.lmn_machine_commit.specs.Matched.{BodiesCanBeCommitted};
 ghost use Rattle.lmn_machine_commit.specs.Orders.{BodiesAreInOrder};
 ghost use Rattle.lmn_machine_commit.specs.Touching.{RulesWakeTouched};
@@ -36,4 +36,10 @@ pub fn copies_are_not_ready()
 #[tactic(auto, using(crate::proofs::EmptyExamples::lost_atoms_are_not_ready))]
 pub fn lost_atoms_are_not_ready()
     ensures { LostAtomsAreNotReady }
+{}
+
+/// An instruction that takes a membrane is a rare one, and the one that ends code isn't.
+#[tactic(auto, using(crate::proofs::EmptyExamples::taking_is_rare))]
+pub fn taking_is_rare()
+    ensures { TakingIsRare }
 {}

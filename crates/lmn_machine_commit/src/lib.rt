@@ -14,7 +14,7 @@ mod waking;
 pub use committing::commit;
 pub use laws::{
     bodies_are_in_order, bodies_can_be_committed, copies_are_not_ready, empty_body_is_ready,
-    lost_atoms_are_not_ready, rules_wake_touched,
+    lost_atoms_are_not_ready, rules_wake_touched, taking_is_rare,
 };
 pub use marking::{has_home, mark_taken, set_own};
 pub use preparing::prepare;
